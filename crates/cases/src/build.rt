@@ -1,0 +1,51 @@
+// Pages and volumes to run the cases on. What doesn't fit is left out, so that nothing is asked of a caller.
+use page::id::EntryID;
+
+// A page's header.
+pub(crate) fn header(page: &mut [u8], id: u32) {
+    if page.len() < 4 {
+        return;
+    }
+    page::store::write_page_header(page, EntryID(id as usize));
+}
+
+// An entry at an offset, and the offset past it.
+pub(crate) fn entry(page: &mut [u8], at: usize, data: &[u8]) -> usize {
+    let n = data.len();
+    if 4096 < n {
+        return at;
+    }
+    if page.len() < n + 4 {
+        return at;
+    }
+    if page.len() - (n + 4) < at {
+        return at;
+    }
+    page::store::write_entry(page, at, data);
+    at + 4 + n
+}
+
+// A bare word at an offset, as a damaged page may have it.
+pub(crate) fn word(page: &mut [u8], at: usize, n: u32) {
+    if page.len() < 4 {
+        return;
+    }
+    if page.len() - 4 < at {
+        return;
+    }
+    page::word::write_word(page, at, n);
+}
+
+// A page into a slot of a volume of 4 pages of 32 bytes.
+pub(crate) fn slot(volume: &mut [u8], s: usize, page: &[u8]) {
+    if page.len() != 32 {
+        return;
+    }
+    if volume.len() != 128 {
+        return;
+    }
+    if 3 < s {
+        return;
+    }
+    page::bytes::copy_in(volume, s * 32, page);
+}

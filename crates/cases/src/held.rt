@@ -1,0 +1,80 @@
+// The bytes at a position, the next entry and its length: P = 32, N = 4, the append ID in page 1.
+use crate::build;
+use crate::print;
+use page::held::EntryLength;
+use page::held::Place;
+use page::id::EntryID;
+
+// Where reading from an ID goes on, and the length of the entry there.
+fn next(volume: &[u8], buffer: &[u8], a: usize, r: usize) {
+    if volume.len() != 128 {
+        return;
+    }
+    if buffer.len() != 32 {
+        return;
+    }
+    if a == 0 {
+        return;
+    }
+    if 1879048192 < r {
+        return;
+    }
+    print::label(b"append ID, read ID, place, length");
+    print::number(a);
+    print::number(r);
+    match page::held::get_next_entry(volume, buffer, 32, EntryID(a), EntryID(r)) {
+        Place::End => print::word(b"end"),
+        Place::At(id) => {
+            print::number(id.0);
+            match page::held::read_entry_header(volume, buffer, 32, EntryID(a), id) {
+                EntryLength::Bad => print::word(b"bad"),
+                EntryLength::Is(n) => print::number(n),
+            }
+        }
+    }
+    print::end();
+}
+
+fn byte(volume: &[u8], buffer: &[u8], a: usize, pos: usize) {
+    if volume.len() != 128 {
+        return;
+    }
+    if buffer.len() != 32 {
+        return;
+    }
+    if a == 0 {
+        return;
+    }
+    print::label(b"append ID, position, byte");
+    print::number(a);
+    print::number(pos);
+    let b = page::held::get_byte(volume, buffer, 32, EntryID(a), EntryID(pos));
+    print::number(b as usize);
+    print::end();
+}
+
+pub(crate) fn cases() {
+    let data = [5u8; 20];
+    let other = [6u8; 20];
+    let mut volume = [255u8; 128];
+    let mut page = [255u8; 32];
+    build::header(&mut page, 0);
+    build::entry(&mut page, 4, &data);
+    build::slot(&mut volume, 0, &page);
+    let mut buffer = [0u8; 32];
+    build::header(&mut buffer, 32);
+    let at = build::entry(&mut buffer, 4, &other[..3]);
+    build::entry(&mut buffer, at, &other[..17]);
+    byte(&volume, &buffer, 43, 8);
+    byte(&volume, &buffer, 43, 40);
+    byte(&volume, &buffer, 64, 40);
+    byte(&volume, &buffer, 32, 8);
+    next(&volume, &buffer, 43, 0);
+    next(&volume, &buffer, 43, 4);
+    next(&volume, &buffer, 43, 28);
+    next(&volume, &buffer, 43, 43);
+    next(&volume, &buffer, 64, 43);
+    next(&volume, &buffer, 64, 64);
+    next(&volume, &buffer, 64, 8);
+    next(&volume, &buffer, 64, 62);
+}

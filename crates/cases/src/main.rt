@@ -1,0 +1,14 @@
+// Document 01's cases that concern pages, and their neighbours, run and written out: a line each, held to the file stdout.
+mod build;
+mod header;
+mod held;
+mod id;
+mod print;
+mod walk;
+
+fn main() {
+    id::cases();
+    walk::cases();
+    header::cases();
+    held::cases();
+}
