@@ -6,7 +6,7 @@ use page::held::Place;
 use page::id::EntryID;
 
 // Where reading from an ID goes on, and the length of the entry there.
-fn next(volume: &[u8], buffer: &[u8], a: usize, r: usize) {
+fn next<'a>(volume: &'a [u8], buffer: &'a [u8], a: usize, r: usize) {
     if volume.len() != 128 {
         return;
     }
@@ -35,7 +35,7 @@ fn next(volume: &[u8], buffer: &[u8], a: usize, r: usize) {
     print::end();
 }
 
-fn byte(volume: &[u8], buffer: &[u8], a: usize, pos: usize) {
+fn byte<'a>(volume: &'a [u8], buffer: &'a [u8], a: usize, pos: usize) {
     if volume.len() != 128 {
         return;
     }
@@ -53,6 +53,25 @@ fn byte(volume: &[u8], buffer: &[u8], a: usize, pos: usize) {
     print::end();
 }
 
+fn bytes<'a>(volume: &'a [u8], buffer: &'a [u8]) {
+    byte(volume, buffer, 43, 8);
+    byte(volume, buffer, 43, 40);
+    byte(volume, buffer, 64, 40);
+    byte(volume, buffer, 32, 8);
+}
+
+fn entries<'a>(volume: &'a [u8], buffer: &'a [u8]) {
+    next(volume, buffer, 43, 0);
+    next(volume, buffer, 43, 4);
+    next(volume, buffer, 43, 28);
+    next(volume, buffer, 43, 43);
+    next(volume, buffer, 64, 43);
+    next(volume, buffer, 64, 64);
+    next(volume, buffer, 64, 8);
+    next(volume, buffer, 64, 62);
+}
+
+// Page 0 with an entry of 20 on flash; page 1 with entries of 3 and 17 in the buffer.
 pub(crate) fn cases() {
     let data = [5u8; 20];
     let other = [6u8; 20];
@@ -65,16 +84,6 @@ pub(crate) fn cases() {
     build::header(&mut buffer, 32);
     let at = build::entry(&mut buffer, 4, &other[..3]);
     build::entry(&mut buffer, at, &other[..17]);
-    byte(&volume, &buffer, 43, 8);
-    byte(&volume, &buffer, 43, 40);
-    byte(&volume, &buffer, 64, 40);
-    byte(&volume, &buffer, 32, 8);
-    next(&volume, &buffer, 43, 0);
-    next(&volume, &buffer, 43, 4);
-    next(&volume, &buffer, 43, 28);
-    next(&volume, &buffer, 43, 43);
-    next(&volume, &buffer, 64, 43);
-    next(&volume, &buffer, 64, 64);
-    next(&volume, &buffer, 64, 8);
-    next(&volume, &buffer, 64, 62);
+    bytes(&volume, &buffer);
+    entries(&volume, &buffer);
 }

@@ -27,12 +27,17 @@ pub(crate) fn line(text: &[u8], n: usize) {
     end();
 }
 
+fn wide(byte: u8) -> usize {
+    byte as usize
+}
+
 // The bytes of a slice, each as a number.
 pub(crate) fn bytes(text: &[u8], b: &[u8]) {
     label(text);
     let mut i: usize = 0;
     while i < b.len() {
-        number(b[i] as usize);
+        let byte = b[i];
+        number(wide(byte));
         i += 1;
     }
     end();
