@@ -9,10 +9,10 @@ pub(crate) fn header(page: &mut [u8], id: u32) {
     page::store::write_page_header(page, EntryID(id as usize));
 }
 
-// An entry at an offset, and the offset past it.
-pub(crate) fn entry(page: &mut [u8], at: usize, data: &[u8]) -> usize {
-    let n = data.len();
-    if 4096 < n {
+// An entry of n bytes, all 7, at an offset, and the offset past it.
+pub(crate) fn sevens(page: &mut [u8], at: usize, n: usize) -> usize {
+    let data = [7u8; 32];
+    if 32 < n {
         return at;
     }
     if page.len() < n + 4 {
@@ -21,7 +21,7 @@ pub(crate) fn entry(page: &mut [u8], at: usize, data: &[u8]) -> usize {
     if page.len() - (n + 4) < at {
         return at;
     }
-    page::store::write_entry(page, at, data);
+    page::store::write_entry(page, at, &data[..n]);
     at + 4 + n
 }
 
@@ -36,16 +36,13 @@ pub(crate) fn word(page: &mut [u8], at: usize, n: u32) {
     page::word::write_word(page, at, n);
 }
 
-// A page into a slot of a volume of 4 pages of 32 bytes.
-pub(crate) fn slot(volume: &mut [u8], s: usize, page: &[u8]) {
-    if page.len() != 32 {
-        return;
-    }
+// An erased page with this header into a slot of a volume of 4 pages of 32 bytes.
+pub(crate) fn slot(volume: &mut [u8], s: usize, id: u32) {
     if volume.len() != 128 {
         return;
     }
     if 3 < s {
         return;
     }
-    page::bytes::copy_in(volume, s * 32, page);
+    page::word::write_word(volume, s * 32, id);
 }

@@ -36,42 +36,52 @@ fn span(text: &[u8], volume: &[u8]) {
     print::end();
 }
 
-// A header word, put into a slot of an empty volume and read back.
-fn alone(text: &[u8], id: u32, s: usize) {
+// A header word, put into a slot of an erased volume and read back.
+fn alone(text: &[u8], s: usize, id: u32) {
     let mut volume = [255u8; 128];
-    let mut page = [255u8; 32];
-    build::header(&mut page, id);
-    build::slot(&mut volume, s, &page);
+    build::slot(&mut volume, s, id);
     header(text, &volume, s);
 }
 
-fn volumes() {
-    let blank = [255u8; 128];
-    span(b"least and greatest of an erased volume", &blank);
-    let zero = [0u8; 128];
-    span(b"least and greatest of a volume of zeros", &zero);
+// A volume whose bytes are all the same.
+fn uniform(text: &[u8], byte: u8) {
+    let volume = [byte; 128];
+    span(text, &volume);
+}
+
+// Four headers, in the slots' order.
+fn four(text: &[u8], a: u32, b: u32, c: u32, d: u32) {
     let mut volume = [255u8; 128];
-    let mut page = [255u8; 32];
-    build::header(&mut page, 128);
-    build::slot(&mut volume, 0, &page);
-    build::header(&mut page, 32);
-    build::slot(&mut volume, 1, &page);
-    build::header(&mut page, 96);
-    build::slot(&mut volume, 3, &page);
-    span(b"least and greatest of pages 4, 1 and 3", &volume);
-    build::header(&mut page, 224);
-    build::slot(&mut volume, 2, &page);
-    span(b"the same with page 7 in slot 2", &volume);
+    build::slot(&mut volume, 0, a);
+    build::slot(&mut volume, 1, b);
+    build::slot(&mut volume, 2, c);
+    build::slot(&mut volume, 3, d);
+    span(text, &volume);
 }
 
 pub(crate) fn cases() {
     alone(b"header 0 in slot 0", 0, 0);
-    alone(b"header 0 in slot 1", 0, 1);
-    alone(b"header 224 in slot 3", 224, 3);
-    alone(b"header 224 in slot 2", 224, 2);
-    alone(b"header 225 in slot 3", 225, 3);
-    alone(b"header 1879048160 in slot 3", 1879048160, 3);
-    alone(b"header 1879048192 in slot 0", 1879048192, 0);
-    alone(b"header 4294967295 in slot 3", 4294967295, 3);
-    volumes();
+    alone(b"header 0 in slot 1", 1, 0);
+    alone(b"header 224 in slot 3", 3, 224);
+    alone(b"header 224 in slot 2", 2, 224);
+    alone(b"header 225 in slot 3", 3, 225);
+    alone(b"header 1879048160 in slot 3", 3, 1879048160);
+    alone(b"header 1879048192 in slot 0", 0, 1879048192);
+    alone(b"header 4294967295 in slot 3", 3, 4294967295);
+    uniform(b"least and greatest of an erased volume", 255);
+    uniform(b"least and greatest of a volume of zeros", 0);
+    four(
+        b"least and greatest of headers 128, 32, none, 96",
+        128,
+        32,
+        4294967295,
+        96,
+    );
+    four(
+        b"least and greatest of headers 128, 32, 224, 96",
+        128,
+        32,
+        224,
+        96,
+    );
 }

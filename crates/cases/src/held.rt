@@ -54,10 +54,10 @@ fn byte<'a>(volume: &'a [u8], buffer: &'a [u8], a: usize, pos: usize) {
 }
 
 fn bytes<'a>(volume: &'a [u8], buffer: &'a [u8]) {
-    byte(volume, buffer, 43, 8);
-    byte(volume, buffer, 43, 40);
-    byte(volume, buffer, 64, 40);
-    byte(volume, buffer, 32, 8);
+    byte(volume, buffer, 43, 4);
+    byte(volume, buffer, 43, 36);
+    byte(volume, buffer, 64, 36);
+    byte(volume, buffer, 32, 4);
 }
 
 fn entries<'a>(volume: &'a [u8], buffer: &'a [u8]) {
@@ -73,17 +73,13 @@ fn entries<'a>(volume: &'a [u8], buffer: &'a [u8]) {
 
 // Page 0 with an entry of 20 on flash; page 1 with entries of 3 and 17 in the buffer.
 pub(crate) fn cases() {
-    let data = [5u8; 20];
-    let other = [6u8; 20];
     let mut volume = [255u8; 128];
-    let mut page = [255u8; 32];
-    build::header(&mut page, 0);
-    build::entry(&mut page, 4, &data);
-    build::slot(&mut volume, 0, &page);
+    build::slot(&mut volume, 0, 0);
+    build::sevens(&mut volume, 4, 20);
     let mut buffer = [0u8; 32];
     build::header(&mut buffer, 32);
-    let at = build::entry(&mut buffer, 4, &other[..3]);
-    build::entry(&mut buffer, at, &other[..17]);
+    let at = build::sevens(&mut buffer, 4, 3);
+    build::sevens(&mut buffer, at, 17);
     bytes(&volume, &buffer);
     entries(&volume, &buffer);
 }

@@ -2,60 +2,66 @@
 use crate::build;
 use crate::print;
 
-// Entries of 24; of 5 then 15; of 20, padded by 4.
-fn full() {
-    let data = [7u8; 24];
-    let mut one = [0u8; 32];
-    build::entry(&mut one, 4, &data);
-    print::line(b"walk of 24", page::walk::walk(&one));
-    let mut two = [0u8; 32];
-    let at = build::entry(&mut two, 4, &data[..5]);
-    build::entry(&mut two, at, &data[..15]);
-    print::line(b"walk of 5, then 15", page::walk::walk(&two));
-    let mut three = [0u8; 32];
-    let end = build::entry(&mut three, 4, &data[..20]);
-    page::store::pad(&mut three, end);
-    print::line(b"walk of 20, padded by 4", page::walk::walk(&three));
-    print::bytes(b"that page", &three);
+fn walk(text: &[u8], page: &[u8]) {
+    print::line(text, page::walk::walk(page));
 }
 
-// Pages with no entry, and with a stop of each kind.
-fn stopped() {
-    let zero = [0u8; 32];
-    print::line(b"walk of zeros", page::walk::walk(&zero));
+// A page whose bytes are all the same.
+fn uniform(text: &[u8], byte: u8) {
+    let page = [byte; 32];
+    walk(text, &page);
+}
+
+// A page with one entry, and one with a second.
+fn one(text: &[u8], n: usize) {
+    let mut page = [0u8; 32];
+    build::sevens(&mut page, 4, n);
+    walk(text, &page);
+}
+
+fn two(text: &[u8], n: usize, m: usize) {
+    let mut page = [0u8; 32];
+    let at = build::sevens(&mut page, 4, n);
+    build::sevens(&mut page, at, m);
+    walk(text, &page);
+}
+
+// A page with one entry and its tail padded.
+fn padded(text: &[u8], n: usize) {
+    let mut page = [0u8; 32];
+    let at = build::sevens(&mut page, 4, n);
+    page::store::pad(&mut page, at);
+    walk(text, &page);
+    print::bytes(b"that page", &page);
+}
+
+// An entry of 3 bytes, then a length word.
+fn then(text: &[u8], word: u32) {
     let mut page = [255u8; 32];
-    build::header(&mut page, 96);
-    print::line(b"walk of a header alone", page::walk::walk(&page));
-    let data = [9u8; 3];
-    build::entry(&mut page, 4, &data);
-    print::line(b"walk of 3, then padding", page::walk::walk(&page));
-    build::word(&mut page, 11, 0);
-    print::line(b"walk of 3, then a zero", page::walk::walk(&page));
-    build::word(&mut page, 11, 18);
-    print::line(
-        b"walk of 3, then one byte too long",
-        page::walk::walk(&page),
-    );
-    build::word(&mut page, 11, 17);
-    print::line(b"walk of 3, then to the end", page::walk::walk(&page));
-    build::word(&mut page, 11, 4294967284);
-    print::line(
-        b"walk of 3, then a length that would wrap",
-        page::walk::walk(&page),
-    );
-    build::word(&mut page, 11, 256);
-    print::line(b"walk of 3, then a length of 256", page::walk::walk(&page));
-    let mut short = [1u8; 32];
-    build::word(&mut short, 4, 22);
-    print::line(
-        b"walk to where no length word fits",
-        page::walk::walk(&short),
-    );
-    let none = [1u8; 3];
-    print::line(b"walk of 3 bytes", page::walk::walk(&none));
+    let at = build::sevens(&mut page, 4, 3);
+    build::word(&mut page, at, word);
+    walk(text, &page);
+}
+
+// An entry that ends where no length word fits.
+fn near_the_end(text: &[u8]) {
+    let mut page = [1u8; 32];
+    build::word(&mut page, 4, 22);
+    walk(text, &page);
 }
 
 pub(crate) fn cases() {
-    full();
-    stopped();
+    one(b"walk of 24", 24);
+    two(b"walk of 5, then 15", 5, 15);
+    padded(b"walk of 20, padded by 4", 20);
+    uniform(b"walk of zeros", 0);
+    uniform(b"walk of an erased page", 255);
+    then(b"walk of 3, then padding", 4294967295);
+    then(b"walk of 3, then a zero", 0);
+    then(b"walk of 3, then one byte too long", 18);
+    then(b"walk of 3, then to the end", 17);
+    then(b"walk of 3, then a length that would wrap", 4294967284);
+    then(b"walk of 3, then a length of 256", 256);
+    near_the_end(b"walk to where no length word fits");
+    walk(b"walk of 3 bytes", &[1, 1, 1]);
 }
