@@ -36,7 +36,7 @@ pub(crate) fn word(page: &mut [u8], at: usize, n: u32) {
     page::word::write_word(page, at, n);
 }
 
-// An erased page with this header into a slot of a volume of 4 pages of 32 bytes.
+// A header word into a slot of a volume of 4 pages of 32 bytes.
 pub(crate) fn slot(volume: &mut [u8], s: usize, id: u32) {
     if volume.len() != 128 {
         return;
@@ -45,4 +45,13 @@ pub(crate) fn slot(volume: &mut [u8], s: usize, id: u32) {
         return;
     }
     page::word::write_word(volume, s * 32, id);
+}
+
+// A page with this header into a slot of pages of 32 bytes, with one entry of n bytes.
+pub(crate) fn page(volume: &mut [u8], s: usize, id: u32, n: usize) {
+    if 3 < s {
+        return;
+    }
+    word(volume, s * 32, id);
+    sevens(volume, s * 32 + 4, n);
 }

@@ -1,9 +1,11 @@
-// Document 01's cases that concern pages, and their neighbours, run and written out: a line each, held to the file stdout.
+// Document 01's cases that concern pages, restart and survey, and their neighbours, run and written out: a line each, held to the file stdout.
 mod build;
 mod header;
 mod held;
 mod id;
 mod print;
+mod restart;
+mod survey;
 mod walk;
 
 fn main() {
@@ -11,4 +13,6 @@ fn main() {
     walk::cases();
     header::cases();
     held::cases();
+    restart::cases();
+    survey::cases();
 }
