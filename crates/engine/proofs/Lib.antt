@@ -1,0 +1,5 @@
+-- The laws of the calls, for their own proofs and for the crates above.
+pub mod Gates
+pub mod AppendLaws
+pub mod ReadLaws
+pub mod CompletionLaws
