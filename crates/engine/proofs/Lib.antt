@@ -3,3 +3,4 @@ pub mod Gates
 pub mod AppendLaws
 pub mod ReadLaws
 pub mod CompletionLaws
+pub mod Cases
