@@ -1,8 +1,10 @@
-// Document 01's cases that concern pages, restart and survey, and their neighbours, run and written out: a line each, held to the file stdout.
+// Document 01's cases and their neighbours, run and written out: a line each, held to the file stdout.
 mod build;
+mod calls;
 mod header;
 mod held;
 mod id;
+mod outcome;
 mod print;
 mod restart;
 mod survey;
@@ -15,4 +17,5 @@ fn main() {
     held::cases();
     restart::cases();
     survey::cases();
+    calls::cases();
 }

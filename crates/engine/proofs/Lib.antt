@@ -3,4 +3,6 @@ pub mod Gates
 pub mod AppendLaws
 pub mod ReadLaws
 pub mod CompletionLaws
+pub mod FirstLap
+pub mod StateKept
 pub mod Cases

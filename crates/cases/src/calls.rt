@@ -1,0 +1,235 @@
+// Calls on a log of P = 32, N = 4: document 01's cases, and states and arguments at their limits.
+use crate::build;
+use crate::outcome;
+use engine::outcome::Driver;
+use log::state::Geometry;
+use log::state::Log;
+use log::state::State;
+use page::id::EntryID;
+
+// A log at rest with these O, R and A.
+fn at(circular: bool, o: usize, r: usize, a: usize) -> Log {
+    Log {
+        geometry: Geometry {
+            page_size: 32,
+            page_count: 4,
+            first_page: 100,
+        },
+        circular,
+        read_client: true,
+        append_client: true,
+        state: State::Idle,
+        oldest_entry_id: EntryID(o),
+        read_entry_id: EntryID(r),
+        append_entry_id: EntryID(a),
+        length: 0,
+    }
+}
+
+// The calls, on an erased volume and buffers of zeros.
+fn append(text: &[u8], log: Log, n: usize, word: Driver) -> Log {
+    let volume = [255u8; 128];
+    let mut page = [0u8; 32];
+    let mut hold = [0u8; 32];
+    let data = [7u8; 32];
+    outcome::line(
+        text,
+        engine::append::append(log, &volume, &mut page, &mut hold, &data, n, word),
+    )
+}
+
+fn sync(text: &[u8], log: Log, word: Driver) -> Log {
+    let volume = [255u8; 128];
+    let mut page = [0u8; 32];
+    let hold = [0u8; 32];
+    outcome::line(
+        text,
+        engine::sync::sync(log, &volume, &mut page, &hold, word),
+    )
+}
+
+fn written(text: &[u8], log: Log, good: bool) -> Log {
+    let volume = [255u8; 128];
+    let mut page = [0u8; 32];
+    let hold = [0u8; 32];
+    outcome::line(
+        text,
+        engine::write_complete::write_complete(log, &volume, &mut page, &hold, good),
+    )
+}
+
+fn erase(text: &[u8], log: Log, word: Driver) -> Log {
+    let volume = [255u8; 128];
+    let page = [0u8; 32];
+    let hold = [0u8; 32];
+    outcome::line(text, engine::erase::erase(log, &volume, &page, &hold, word))
+}
+
+fn erased(text: &[u8], log: Log, good: bool, word: Driver) -> Log {
+    let volume = [255u8; 128];
+    let mut page = [0u8; 32];
+    let hold = [0u8; 32];
+    outcome::line(
+        text,
+        engine::erase::erase_complete(log, &volume, &mut page, &hold, good, word),
+    )
+}
+
+fn seek(text: &[u8], log: Log, id: usize) -> Log {
+    let volume = [255u8; 128];
+    let page = [0u8; 32];
+    let hold = [0u8; 32];
+    outcome::line(
+        text,
+        engine::seek::seek(log, &volume, &page, &hold, EntryID(id)),
+    )
+}
+
+fn deferred(text: &[u8], log: Log) -> Log {
+    let volume = [255u8; 128];
+    let page = [0u8; 32];
+    let hold = [0u8; 32];
+    outcome::line(
+        text,
+        engine::deferred::handle_deferred_call(log, &volume, &page, &hold),
+    )
+}
+
+// Page 0 with an entry of 20 bytes on flash, page 1 with one of 3 in the buffer.
+fn read(text: &[u8], log: Log, n: usize) -> Log {
+    let mut volume = [255u8; 128];
+    build::page(&mut volume, 0, 0, 20);
+    let mut page = [0u8; 32];
+    build::page(&mut page, 0, 32, 3);
+    let hold = [0u8; 32];
+    let mut buffer = [0u8; 24];
+    outcome::line(
+        text,
+        engine::read::read(log, &volume, &page, &hold, &mut buffer, n),
+    )
+}
+
+fn fill() {
+    let fresh = at(true, 4, 4, 4);
+    append(b"append 24", fresh, 24, Driver::OK);
+    append(b"append 25", fresh, 25, Driver::OK);
+    append(b"append 0", fresh, 0, Driver::OK);
+    append(b"append 33 of 32", fresh, 33, Driver::OK);
+    let five = append(b"append 5", fresh, 5, Driver::OK);
+    let full = append(b"then 15", five, 15, Driver::OK);
+    let waits = append(b"then 1", full, 1, Driver::OK);
+    append(b"append while one waits", waits, 1, Driver::OK);
+    written(b"the write completes", waits, true);
+    written(b"the write fails", waits, false);
+    append(b"the driver is busy", full, 1, Driver::BUSY);
+    append(b"the driver fails", full, 1, Driver::FAIL);
+}
+
+fn syncs() {
+    let twenty = append(b"append 20", at(true, 4, 4, 4), 20, Driver::OK);
+    let waits = append(b"20, then 1", twenty, 1, Driver::OK);
+    written(b"20, then 1, written", waits, true);
+    sync(b"fresh sync", at(true, 4, 4, 4), Driver::OK);
+    let syncing = sync(b"sync at 28", twenty, Driver::OK);
+    sync(b"sync while syncing", syncing, Driver::OK);
+    written(b"sync written", syncing, true);
+    written(b"sync failed", syncing, false);
+    sync(b"sync refused", twenty, Driver::FAIL);
+    sync(b"flush of page 4", at(true, 4, 4, 145), Driver::OK);
+    let whole = sync(b"sync of a full page", at(true, 4, 4, 32), Driver::OK);
+    written(b"full page written", whole, true);
+    written(b"stray write completion", twenty, true);
+}
+
+fn limits() {
+    append(b"plain log at 128", at(false, 4, 4, 128), 1, Driver::OK);
+    append(
+        b"plain log at 100, 24",
+        at(false, 4, 4, 100),
+        24,
+        Driver::OK,
+    );
+    append(
+        b"plain log at 100, 23",
+        at(false, 4, 4, 100),
+        23,
+        Driver::OK,
+    );
+    append(
+        b"at the ceiling",
+        at(true, 1879048164, 1879048164, 1879048192),
+        1,
+        Driver::OK,
+    );
+    append(
+        b"A above the ceiling",
+        at(true, 4, 4, 1879048196),
+        1,
+        Driver::OK,
+    );
+    append(b"A at offset 2", at(true, 4, 4, 34), 1, Driver::OK);
+    append(b"O above A", at(true, 36, 36, 4), 1, Driver::OK);
+    append(b"O at offset 5", at(true, 5, 5, 20), 1, Driver::OK);
+    append(
+        b"R above the ceiling",
+        at(true, 4, 1879048193, 20),
+        1,
+        Driver::OK,
+    );
+    append(
+        b"the largest length",
+        at(true, 4, 4, 4),
+        18446744073709551615,
+        Driver::OK,
+    );
+    append(
+        b"A the largest number",
+        at(true, 4, 4, 18446744073709551615),
+        1,
+        Driver::OK,
+    );
+}
+
+fn seeks() {
+    let log = at(true, 4, 4, 43);
+    let sought = seek(b"seek to A", log, 43);
+    deferred(b"seek done", sought);
+    seek(b"seek to A + 1", log, 44);
+    seek(b"seek to O - 1", log, 3);
+    seek(b"seek while seeking", sought, 4);
+    deferred(b"deferred call in idle", log);
+}
+
+fn reads() {
+    let log = at(true, 4, 4, 43);
+    let one = read(b"read", log, 24);
+    let idle = deferred(b"read done", one);
+    let two = read(b"read past the padding", idle, 24);
+    let last = deferred(b"read done", two);
+    read(b"read at the end", last, 24);
+    read(b"read into too little", log, 19);
+    read(b"read more than the buffer", log, 25);
+    read(b"R beyond A", at(true, 4, 44, 43), 24);
+    read(b"R in the middle of an entry", at(true, 4, 9, 43), 24);
+}
+
+fn erases() {
+    let log = at(true, 4, 4, 43);
+    let starts = erase(b"erase", log, Driver::OK);
+    let next = erased(b"page 0 erased", starts, true, Driver::OK);
+    erased(b"page 1 erased", next, true, Driver::OK);
+    erased(b"erase failed", starts, false, Driver::OK);
+    erased(b"erase interrupted", starts, true, Driver::BUSY);
+    erased(b"erase refused in the middle", starts, true, Driver::FAIL);
+    erase(b"erase refused", log, Driver::BUSY);
+    erased(b"stray erase completion", log, true, Driver::OK);
+}
+
+pub(crate) fn cases() {
+    fill();
+    syncs();
+    limits();
+    seeks();
+    reads();
+    erases();
+}
