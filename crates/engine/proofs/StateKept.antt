@@ -20,7 +20,7 @@ use Rattle.page.proofs.Kit.{facts, both, parts, rest-of, rounded, page-mono, pa
 use Rattle.log.specs.Answer.{OK, INVAL, SIZE, CANCEL, nothing}
 use Rattle.log.specs.Log.{State, Idle, Read, Seek, Append, Sync, Erase, Log}
 use Rattle.log.specs.Check.{keptFits, stateFits}
-use Rattle.log.proofs.Checks.{StateFits, state-fits, fits-state}
+use Rattle.log.proofs.Checks.{StateFits, state-fits, fits-state, offset-in}
 use Rattle.log.proofs.Opens.{may-open}
 use Rattle.engine.specs.Outcome.{Outcome, Word, ok, busy, fail, orElse, refusal, unless, moved, inState}
 use Rattle.engine.specs.Gate.{gate, unlessIdle, unlessSet, unlessDeferred}
@@ -35,14 +35,6 @@ use Rattle.engine.specs.Erase.{lastErased, reset, erasesNext, eraseRefus
 use Rattle.engine.proofs.Gates.{shaped}
 use Rattle.engine.proofs.AppendLaws.{or-none, accepted, fits-page}
 use Rattle.engine.proofs.ReadLaws.{next-below, lengthy}
-
--- an ID past a page's header, up to its end, stands at an offset that STATE lets through
-offset-in : (k len : ℕ) {x p w : ℕ} → 0 < p → w ≤ len → len ≤ p → x ≡ k * p + len → (x % p ≡ 0) ⊎ (w ≤ x % p)
-offset-in k len {x} {p} {w} h l m e = go (decLt len p)
-  where
-    go : Dec (len < p) → (x % p ≡ 0) ⊎ (w ≤ x % p)
-    go (yes s) = inr (omega (arith, rest-of k s e))
-    go (no s) = inl (rest-of (k + 1) h (omega arith))
 
 -- A lies past the header of the page of byte A - 1
 past-last : (a : ℕ) {p w : ℕ} → 0 < p → w ≤ p → 0 < a → (a % p ≡ 0) ⊎ (w ≤ a % p) → (a - 1) / p * p + w ≤ a

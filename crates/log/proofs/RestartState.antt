@@ -5,7 +5,6 @@ use mathlib.Core.Bool.{Bool, true, false}
 use mathlib.Core.List.{List}
 use mathlib.Core.Logic.{_⊎_, inl, inr}
 use mathlib.Core.Option.{Option, none, some}
-use native.Mathlib.Decide.{decLt}
 use native.Mathlib.Nat.{mod-eq-of-lt}
 use native.Mathlib.Omega.{arith}
 use lib.ListN.{length, replicate, length-replicate}
@@ -22,17 +21,9 @@ use Rattle.log.specs.Log.{Geometry, Log}
 use Rattle.log.specs.Check.{shapeFits, stateFits}
 use Rattle.log.specs.Open.{mayOpen, openedId}
 use Rattle.log.specs.Restart.{Restarted, started, refused, atRest, headers, newestPage, walkedId, opens, recoveredId, logFrom, restoredLog, restart, Newest}
-use Rattle.log.proofs.Checks.{StateFits, fits-state, shape-fits}
+use Rattle.log.proofs.Checks.{StateFits, fits-state, shape-fits, offset-in}
 use Rattle.log.proofs.Opens.{may-open}
 use Rattle.log.proofs.Restarts.{newest-valid, newest-walked, walked-from, walked-limited, oldest-first, oldest-newest}
-
--- an ID past a page's header, up to its end, stands at an offset that STATE lets through
-offset-in : (k len : ℕ) {p w : ℕ} → 0 < p → w ≤ len → len ≤ p → ((k * p + len) % p ≡ 0) ⊎ (w ≤ (k * p + len) % p)
-offset-in k len {p} {w} h l m = go (decLt len p)
-  where
-    go : Dec (len < p) → ((k * p + len) % p ≡ 0) ⊎ (w ≤ (k * p + len) % p)
-    go (yes s) = inr (omega (arith, rest-of k s refl))
-    go (no s) = inl (rest-of (k + 1) h (omega arith))
 
 module _ {w : ℕ} (g : Geometry) (circular : Bool) (volume : List ℕ) (z : Sizes w (g .p) (g .n)) (whole : length volume ≡ g .n * g .p) where
   f : Facts w (g .p) (g .n)
@@ -59,7 +50,7 @@ module _ {w : ℕ} (g : Geometry) (circular : Bool) (volume : List ℕ) (z : Siz
         record {
           after = omega (arith, walked-from v);
           limited = walked-limited v;
-          offset = rw at at (offset-in (x .greatest / g .p) len (f .page) (walked-from v) (newest-walked v));
+          offset = offset-in (x .greatest / g .p) len (f .page) (walked-from v) (newest-walked v) (sym at);
         }
 
     opened : len ≡ g .p → mayOpen w g circular (walkedId w g (x .greatest) volume) ≡ true → Lies x (openedId w g (walkedId w g (x .greatest) volume))
