@@ -109,6 +109,42 @@ fn read(text: &[u8], log: Log, n: usize) -> Log {
     )
 }
 
+// An append with a page buffer and a hold buffer of other lengths.
+fn lent(text: &[u8], page_len: usize, hold_len: usize) {
+    if 33 < page_len {
+        return;
+    }
+    if 33 < hold_len {
+        return;
+    }
+    let volume = [255u8; 128];
+    let mut page = [0u8; 33];
+    let mut hold = [0u8; 33];
+    let data = [7u8; 4];
+    outcome::line(
+        text,
+        engine::append::append(
+            at(true, 4, 4, 4),
+            &volume,
+            &mut page[..page_len],
+            &mut hold[..hold_len],
+            &data,
+            4,
+            Driver::OK,
+        ),
+    );
+}
+
+fn buffers() {
+    lent(b"buffers of 32", 32, 32);
+    lent(b"page buffer of 31", 31, 32);
+    lent(b"page buffer of 33", 33, 32);
+    lent(b"no page buffer", 0, 32);
+    lent(b"hold buffer of 31", 32, 31);
+    lent(b"hold buffer of 33", 32, 33);
+    lent(b"no hold buffer", 32, 0);
+}
+
 fn fill() {
     let fresh = at(true, 4, 4, 4);
     append(b"append 24", fresh, 24, Driver::OK);
@@ -226,6 +262,7 @@ fn erases() {
 }
 
 pub(crate) fn cases() {
+    buffers();
     fill();
     syncs();
     limits();
