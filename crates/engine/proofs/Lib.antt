@@ -5,4 +5,7 @@ pub mod ReadLaws
 pub mod CompletionLaws
 pub mod FirstLap
 pub mod StateKept
+pub mod Openable
+pub mod RowKit
+pub mod Rows
 pub mod Cases
