@@ -1,4 +1,4 @@
-// Calls on a log of P = 32, N = 4: document 01's cases, and states and arguments at their limits.
+// Calls on a log of P = 32, N = 4: document 01's cases and their neighbours.
 use crate::build;
 use crate::outcome;
 use engine::outcome::Driver;
@@ -7,8 +7,8 @@ use log::state::Log;
 use log::state::State;
 use page::id::EntryID;
 
-// A log at rest with these O, R and A.
-fn at(circular: bool, o: usize, r: usize, a: usize) -> Log {
+// A log with this state, these O, R and A, and this kept length.
+pub(crate) fn with(circular: bool, state: State, o: usize, r: usize, a: usize, n: usize) -> Log {
     Log {
         geometry: Geometry {
             page_size: 32,
@@ -18,16 +18,21 @@ fn at(circular: bool, o: usize, r: usize, a: usize) -> Log {
         circular,
         read_client: true,
         append_client: true,
-        state: State::Idle,
+        state,
         oldest_entry_id: EntryID(o),
         read_entry_id: EntryID(r),
         append_entry_id: EntryID(a),
-        length: 0,
+        length: n,
     }
 }
 
+// A log at rest.
+pub(crate) fn at(circular: bool, o: usize, r: usize, a: usize) -> Log {
+    with(circular, State::Idle, o, r, a, 0)
+}
+
 // The calls, on an erased volume and buffers of zeros.
-fn append(text: &[u8], log: Log, n: usize, word: Driver) -> Log {
+pub(crate) fn append(text: &[u8], log: Log, n: usize, word: Driver) -> Log {
     let volume = [255u8; 128];
     let mut page = [0u8; 32];
     let mut hold = [0u8; 32];
@@ -75,7 +80,7 @@ fn erased(text: &[u8], log: Log, good: bool, word: Driver) -> Log {
     )
 }
 
-fn seek(text: &[u8], log: Log, id: usize) -> Log {
+pub(crate) fn seek(text: &[u8], log: Log, id: usize) -> Log {
     let volume = [255u8; 128];
     let page = [0u8; 32];
     let hold = [0u8; 32];
@@ -85,7 +90,7 @@ fn seek(text: &[u8], log: Log, id: usize) -> Log {
     )
 }
 
-fn deferred(text: &[u8], log: Log) -> Log {
+pub(crate) fn deferred(text: &[u8], log: Log) -> Log {
     let volume = [255u8; 128];
     let page = [0u8; 32];
     let hold = [0u8; 32];
@@ -96,7 +101,7 @@ fn deferred(text: &[u8], log: Log) -> Log {
 }
 
 // Page 0 with an entry of 20 bytes on flash, page 1 with one of 3 in the buffer.
-fn read(text: &[u8], log: Log, n: usize) -> Log {
+pub(crate) fn read(text: &[u8], log: Log, n: usize) -> Log {
     let mut volume = [255u8; 128];
     build::page(&mut volume, 0, 0, 20);
     let mut page = [0u8; 32];
@@ -177,55 +182,6 @@ fn syncs() {
     written(b"stray write completion", twenty, true);
 }
 
-fn limits() {
-    append(b"plain log at 128", at(false, 4, 4, 128), 1, Driver::OK);
-    append(
-        b"plain log at 100, 24",
-        at(false, 4, 4, 100),
-        24,
-        Driver::OK,
-    );
-    append(
-        b"plain log at 100, 23",
-        at(false, 4, 4, 100),
-        23,
-        Driver::OK,
-    );
-    append(
-        b"at the ceiling",
-        at(true, 1879048164, 1879048164, 1879048192),
-        1,
-        Driver::OK,
-    );
-    append(
-        b"A above the ceiling",
-        at(true, 4, 4, 1879048196),
-        1,
-        Driver::OK,
-    );
-    append(b"A at offset 2", at(true, 4, 4, 34), 1, Driver::OK);
-    append(b"O above A", at(true, 36, 36, 4), 1, Driver::OK);
-    append(b"O at offset 5", at(true, 5, 5, 20), 1, Driver::OK);
-    append(
-        b"R above the ceiling",
-        at(true, 4, 1879048193, 20),
-        1,
-        Driver::OK,
-    );
-    append(
-        b"the largest length",
-        at(true, 4, 4, 4),
-        18446744073709551615,
-        Driver::OK,
-    );
-    append(
-        b"A the largest number",
-        at(true, 4, 4, 18446744073709551615),
-        1,
-        Driver::OK,
-    );
-}
-
 fn seeks() {
     let log = at(true, 4, 4, 43);
     let sought = seek(b"seek to A", log, 43);
@@ -265,7 +221,6 @@ pub(crate) fn cases() {
     buffers();
     fill();
     syncs();
-    limits();
     seeks();
     reads();
     erases();

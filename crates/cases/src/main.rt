@@ -4,6 +4,7 @@ mod calls;
 mod header;
 mod held;
 mod id;
+mod limits;
 mod outcome;
 mod print;
 mod restart;
@@ -18,4 +19,5 @@ fn main() {
     restart::cases();
     survey::cases();
     calls::cases();
+    limits::cases();
 }
