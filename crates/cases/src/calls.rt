@@ -1,7 +1,7 @@
 // Calls on a log of P = 32, N = 4: document 01's cases and their neighbours.
 use crate::build;
 use crate::outcome;
-use engine::outcome::Driver;
+use call::outcome::Driver;
 use log::state::Geometry;
 use log::state::Log;
 use log::state::State;
@@ -39,7 +39,7 @@ pub(crate) fn append(text: &[u8], log: Log, n: usize, word: Driver) -> Log {
     let data = [7u8; 32];
     outcome::line(
         text,
-        engine::append::append(log, &volume, &mut page, &mut hold, &data, n, word),
+        writing::append::append(log, &volume, &mut page, &mut hold, &data, n, word),
     )
 }
 
@@ -49,7 +49,7 @@ fn sync(text: &[u8], log: Log, word: Driver) -> Log {
     let hold = [0u8; 32];
     outcome::line(
         text,
-        engine::sync::sync(log, &volume, &mut page, &hold, word),
+        writing::sync::sync(log, &volume, &mut page, &hold, word),
     )
 }
 
@@ -59,7 +59,7 @@ fn written(text: &[u8], log: Log, good: bool) -> Log {
     let hold = [0u8; 32];
     outcome::line(
         text,
-        engine::write_complete::write_complete(log, &volume, &mut page, &hold, good),
+        writing::write_complete::write_complete(log, &volume, &mut page, &hold, good),
     )
 }
 
@@ -67,7 +67,7 @@ fn erase(text: &[u8], log: Log, word: Driver) -> Log {
     let volume = [255u8; 128];
     let page = [0u8; 32];
     let hold = [0u8; 32];
-    outcome::line(text, engine::erase::erase(log, &volume, &page, &hold, word))
+    outcome::line(text, erasing::erase::erase(log, &volume, &page, &hold, word))
 }
 
 fn erased(text: &[u8], log: Log, good: bool, word: Driver) -> Log {
@@ -76,7 +76,7 @@ fn erased(text: &[u8], log: Log, good: bool, word: Driver) -> Log {
     let hold = [0u8; 32];
     outcome::line(
         text,
-        engine::erase::erase_complete(log, &volume, &mut page, &hold, good, word),
+        erasing::erase::erase_complete(log, &volume, &mut page, &hold, good, word),
     )
 }
 
@@ -86,7 +86,7 @@ pub(crate) fn seek(text: &[u8], log: Log, id: usize) -> Log {
     let hold = [0u8; 32];
     outcome::line(
         text,
-        engine::seek::seek(log, &volume, &page, &hold, EntryID(id)),
+        reading::seek::seek(log, &volume, &page, &hold, EntryID(id)),
     )
 }
 
@@ -96,7 +96,7 @@ pub(crate) fn deferred(text: &[u8], log: Log) -> Log {
     let hold = [0u8; 32];
     outcome::line(
         text,
-        engine::deferred::handle_deferred_call(log, &volume, &page, &hold),
+        reading::deferred::handle_deferred_call(log, &volume, &page, &hold),
     )
 }
 
@@ -110,7 +110,7 @@ pub(crate) fn read(text: &[u8], log: Log, n: usize) -> Log {
     let mut buffer = [0u8; 24];
     outcome::line(
         text,
-        engine::read::read(log, &volume, &page, &hold, &mut buffer, n),
+        reading::read::read(log, &volume, &page, &hold, &mut buffer, n),
     )
 }
 
@@ -128,7 +128,7 @@ fn lent(text: &[u8], page_len: usize, hold_len: usize) {
     let data = [7u8; 4];
     outcome::line(
         text,
-        engine::append::append(
+        writing::append::append(
             at(true, 4, 4, 4),
             &volume,
             &mut page[..page_len],

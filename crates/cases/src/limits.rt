@@ -1,6 +1,6 @@
 // States and arguments at their limits and past them.
 use crate::calls;
-use engine::outcome::Driver;
+use call::outcome::Driver;
 use log::state::Log;
 use log::state::State;
 

@@ -1,6 +1,6 @@
 // An outcome, written out: the answer, the report, the request, the state, O, R, A and the kept length.
 use crate::print;
-use engine::outcome::Outcome;
+use call::outcome::Outcome;
 use log::answer::Answer;
 use log::answer::Appended;
 use log::answer::Erased;

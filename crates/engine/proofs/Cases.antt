@@ -14,12 +14,12 @@ use Rattle.log.specs.Check.{sizesFit, shapeFits, stateFits}
 use Rattle.log.specs.Open.{mayOpen}
 use Rattle.log.specs.Restart.{atRest}
 use Rattle.log.proofs.Cases as restart
-use Rattle.engine.specs.Outcome.{Outcome, ok, refusal, unless, keep, moved}
-use Rattle.engine.specs.Gate.{gate}
-use Rattle.engine.specs.Flush.{flushedPage, lostPage, movedRead, movedOldest, flush}
-use Rattle.engine.specs.Append.{fitsPage, appendRefusal, stored, storedPage, appendRuns, appendPage, appendChecks}
-use Rattle.engine.specs.Sync.{syncRefusal, syncRuns}
-use Rattle.engine.specs.WriteComplete.{appendWritten, writeRuns, writeChecks}
+use Rattle.call.specs.Outcome.{Outcome, ok, refusal, unless, keep, moved}
+use Rattle.call.specs.Gate.{gate, unlessFree}
+use Rattle.writing.specs.Flush.{flushedPage, lostPage, movedRead, movedOldest, flush}
+use Rattle.writing.specs.Append.{fitsPage, appendRefusal, stored, storedPage, appendRuns, appendPage, appendChecks}
+use Rattle.writing.specs.Sync.{syncRuns}
+use Rattle.writing.specs.WriteComplete.{appendWritten, writeRuns, writeChecks}
 
 abbrev geometry : Geometry
 geometry = record { p = 32; n = 4; first = 0 }
@@ -80,7 +80,7 @@ pub record Cases : Type 0 where
   plain : appends (at false 4 128 0) 1 ≡ refusal (at false 4 128 0) FAIL
 
 pub cases : Cases
-unfolding gate shapeFits sizesFit stateFits appendRefusal fitsPage appendRuns stored flush lostPage overwritten movedOldest movedRead flushedPage filled syncRuns syncRefusal appendWritten mayOpen
+unfolding gate shapeFits sizesFit stateFits appendRefusal fitsPage appendRuns stored flush lostPage overwritten movedOldest movedRead flushedPage filled syncRuns unlessFree appendWritten mayOpen
 cases = record {
   restarts = restart.cases;
   append-24 = refl;

@@ -1,9 +1,4 @@
--- The laws of the calls, for their own proofs and for the crates above.
-pub mod Gates
-pub mod AppendLaws
-pub mod ReadLaws
-pub mod CompletionLaws
-pub mod FirstLap
+-- What holds of all calls.
 pub mod StateKept
 pub mod Openable
 pub mod RowKit

@@ -21,18 +21,19 @@ use Rattle.log.specs.Log.{Geometry, State, Idle, Read, Seek, Append, Sync, Eras
 use Rattle.log.specs.Check.{shapeFits}
 use Rattle.log.specs.Open.{mayOpen}
 use Rattle.log.specs.Restart.{started, refused, headers, logFrom, restoredLog, restart, Restarts}
-use Rattle.engine.specs.Outcome.{Outcome, Word, ok, busy, fail, orElse, refusal, unless}
-use Rattle.engine.specs.Gate.{gate, unlessDeferred, unlessSet}
-use Rattle.engine.specs.Flush.{flush}
-use Rattle.engine.specs.Append.{fitsPage, stored, appendRefusal, appendRuns, appendChecks, Appends}
-use Rattle.engine.specs.Sync.{synced, syncRefusal, syncRuns, Syncs}
-use Rattle.engine.specs.WriteComplete.{opensNext, opened, notStored, appendWritten, syncWritten, writeRuns, writeChecks, WriteCompletes}
-use Rattle.engine.specs.Read.{canceled, readEntry, readLength, readPlace, found, readRuns, readChecks, Reads}
-use Rattle.engine.specs.Seek.{sought, seekRefusal, seek}
-use Rattle.engine.specs.Deferred.{deferred}
-use Rattle.engine.specs.Erase.{lastErased, reset, eraseStarts, erasesNext, eraseRuns, eraseChecks, eraseRefusal, eraseCall, EraseCompletes}
-use Rattle.engine.proofs.Gates.{shaped}
-use Rattle.engine.proofs.AppendLaws.{or-none, accepted}
+use Rattle.call.specs.Outcome.{Outcome, Word, ok, busy, fail, orElse, refusal, unless}
+use Rattle.call.specs.Gate.{gate, unlessDeferred, unlessSet, unlessFree}
+use Rattle.writing.specs.Flush.{flush}
+use Rattle.writing.specs.Append.{fitsPage, stored, appendRefusal, appendRuns, appendChecks, Appends}
+use Rattle.writing.specs.Sync.{synced, syncRuns, Syncs}
+use Rattle.writing.specs.WriteComplete.{opensNext, opened, notStored, appendWritten, syncWritten, writeRuns, writeChecks, WriteCompletes}
+use Rattle.reading.specs.Read.{canceled, readEntry, readLength, readPlace, found, readRuns, readChecks, Reads}
+use Rattle.reading.specs.Seek.{sought, seekRefusal, seek}
+use Rattle.reading.specs.Deferred.{deferred}
+use Rattle.erasing.specs.Erase.{lastErased, reset, eraseStarts, erasesNext, eraseRuns, eraseChecks, eraseCall, EraseCompletes}
+use Rattle.call.proofs.Gates.{shaped}
+use Rattle.call.proofs.Checks.{or-none}
+use Rattle.writing.proofs.AppendLaws.{accepted}
 
 -- a log that is in Append only where the next page may be opened
 pub record Openable (w : ℕ) (l : Log) : Type 0 where
@@ -147,9 +148,9 @@ sync-open {w} l word h = go (synced w l)
     body : Openable w (flush w l Sync (l .kept) word .log)
     body = flush-open l Sync (l .kept) word (λ (s : Sync ≡ Append). let z : _≡_ {A = ℕ} 0 1 = cc in absurd (omega arith))
 
-    go : (b : Bool) → Openable w (pick b (refusal l OK) (unless (syncRefusal l) l (flush w l Sync (l .kept) word)) .log)
+    go : (b : Bool) → Openable w (pick b (refusal l OK) (unless (unlessFree l) l (flush w l Sync (l .kept) word)) .log)
     go true = h
-    go false = unless-open (syncRefusal l) l _ h (λ (n : syncRefusal l ≡ none). body)
+    go false = unless-open (unlessFree l) l _ h (λ (n : unlessFree l ≡ none). body)
 
 -- write completion, past its checks
 pub write-open : {w : ℕ} (l : Log) (good : Bool) (s : State) → Openable w l → Openable w (writeRuns w l good s .log)
@@ -218,7 +219,7 @@ deferred-keeps {w} l volume page hold h =
 pub erase-call-keeps : {w : ℕ} (l : Log) (volume page hold : ℕ) (word : Word) → Openable w l → Openable w (eraseCall w l volume page hold word .log)
 unfolding eraseCall
 erase-call-keeps {w} l volume page hold word h =
-    unless-open (orElse (gate w l volume page hold) (eraseRefusal l)) l (eraseStarts l word) h (λ e. rest-open _ refl)
+    unless-open (orElse (gate w l volume page hold) (unlessFree l)) l (eraseStarts l word) h (λ e. rest-open _ refl)
 
 -- append
 pub append-keeps : {w : ℕ} → Width w → {l : Log} {volume page hold bytes : List ℕ} {n : ℕ} {word : Word} {o : Outcome} {page' hold' : List ℕ}

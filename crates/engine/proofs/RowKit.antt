@@ -12,10 +12,10 @@ use Rattle.page.specs.Pick.{pick}
 use Rattle.log.specs.Answer.{OK, FAIL, BUSY, RESERVE, SHAPE, STATE, STRAY}
 use Rattle.log.specs.Log.{State, Idle, Read, Seek, Append, Sync, Erase, Log}
 use Rattle.log.specs.Check.{shapeFits, stateFits}
-use Rattle.engine.specs.Outcome.{Outcome, Word, ok, busy, fail, wordNumber, orElse, refusal, unless, keep}
-use Rattle.engine.specs.Gate.{gate, unlessIdle, unlessSet, unlessWriting, unlessErasing, unlessDeferred}
-use Rattle.engine.proofs.Gates.{Passed, passed}
-use Rattle.engine.proofs.AppendLaws.{or-none, pick-none, is-idle, is-set}
+use Rattle.call.specs.Outcome.{Outcome, Word, ok, busy, fail, wordNumber, orElse, refusal, unless, keep}
+use Rattle.call.specs.Gate.{gate, unlessIdle, unlessSet, unlessWriting, unlessErasing, unlessDeferred}
+use Rattle.call.proofs.Gates.{Passed, passed}
+use Rattle.call.proofs.Checks.{or-none, pick-none, is-idle, is-set}
 
 -- a row: where its condition C holds the call is refused with a, leaving the log and what is lent (B), and it answers a nowhere else
 pub record Row (o : Outcome) (l : Log) (a : ℕ) (C B : Type 0) : Type 0 where

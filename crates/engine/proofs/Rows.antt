@@ -19,18 +19,19 @@ use Rattle.log.specs.Answer.{OK, FAIL, BUSY, RESERVE, INVAL, SIZE, CANCEL, SHAP
 use Rattle.log.specs.Answer as answer
 use Rattle.log.specs.Log.{State, Idle, Read, Seek, Append, Sync, Erase, Log}
 use Rattle.log.specs.Check.{shapeFits, stateFits}
-use Rattle.engine.specs.Outcome.{Outcome, Word, ok, busy, fail, wordNumber, orElse, refusal, unless, keep, inState}
-use Rattle.engine.specs.Gate.{gate, unlessIdle, unlessSet, unlessDeferred}
-use Rattle.engine.specs.Flush.{flush, flushedPage}
-use Rattle.engine.specs.Append.{fitsPage, unlessLength, unlessSize, unlessRoom, unlessLimit, stored, heldEntry, appendRefusal, appendRuns, appendPage, appendHold, appendChecks, Appends}
-use Rattle.engine.specs.Sync.{synced, syncRefusal, syncRuns, syncPage, Syncs}
-use Rattle.engine.specs.WriteComplete.{appendWritten, syncWritten, opensNext, opened, notStored, writeRuns, writePage, writeChecks, WriteCompletes}
-use Rattle.engine.specs.Read.{canceled, readEntry, readBytes, readLength, readPlace, lengthBytes, placeBytes, found, readRefusal, readRuns, readBuffer, readChecks, Reads}
-use Rattle.engine.specs.Seek.{sought, seekRefusal, seek}
-use Rattle.engine.specs.Deferred.{deferredReport, deferred}
-use Rattle.engine.specs.Erase.{lastErased, reset, eraseStarts, erasesNext, eraseRuns, eraseBuffer, eraseChecks, eraseRefusal, eraseCall, EraseCompletes}
-use Rattle.engine.proofs.Gates.{Passed}
-use Rattle.engine.proofs.AppendLaws.{or-none, accepted}
+use Rattle.call.specs.Outcome.{Outcome, Word, ok, busy, fail, wordNumber, orElse, refusal, unless, keep, inState}
+use Rattle.call.specs.Gate.{gate, unlessIdle, unlessSet, unlessDeferred, unlessFree}
+use Rattle.writing.specs.Flush.{flush, flushedPage}
+use Rattle.writing.specs.Append.{fitsPage, unlessLength, unlessSize, unlessRoom, unlessLimit, stored, heldEntry, appendRefusal, appendRuns, appendPage, appendHold, appendChecks, Appends}
+use Rattle.writing.specs.Sync.{synced, syncRuns, syncPage, Syncs}
+use Rattle.writing.specs.WriteComplete.{appendWritten, syncWritten, opensNext, opened, notStored, writeRuns, writePage, writeChecks, WriteCompletes}
+use Rattle.reading.specs.Read.{canceled, readEntry, readBytes, readLength, readPlace, lengthBytes, placeBytes, found, readRefusal, readRuns, readBuffer, readChecks, Reads}
+use Rattle.reading.specs.Seek.{sought, seekRefusal, seek}
+use Rattle.reading.specs.Deferred.{deferredReport, deferred}
+use Rattle.erasing.specs.Erase.{lastErased, reset, eraseStarts, erasesNext, eraseRuns, eraseBuffer, eraseChecks, eraseCall, EraseCompletes}
+use Rattle.call.proofs.Gates.{Passed}
+use Rattle.call.proofs.Checks.{or-none}
+use Rattle.writing.proofs.AppendLaws.{accepted}
 use Rattle.engine.proofs.RowKit.{Row, WordRow, none-some, some-else, both-iff, or-else, test-some, test-none, test-else, idle-none, idle-else, set-some, set-none, set-else, writing-some, writing-else, erasing-some, erasing-else, deferred-some, deferred-else, gate-none, gate-else, check-shape, check-state, check-rest, unless-row, word-row, keep-old, word-busy, word-fail, word-ok, word-most, test-first, test-next, idle-first, idle-next, want-else, want-first, want-next, set-first, set-next, never-iff, skip-next, skip-else, none-iff, BodyRow, body-row, always-iff, keep-new, unless-else}
 
 -- append's tests: "length 0 or beyond the buffer"
@@ -351,16 +352,16 @@ module _ (w : ℕ) (l : Log) (volume page hold : ℕ) where
 -- erase
 module _ (w : ℕ) (l : Log) (volume page hold : ℕ) (word : Word) where
   -- numbers that its checks don't give
-  else-erase : {a : ℕ} → eqb BUSY a ≡ false → eqb RESERVE a ≡ false → eraseRefusal l ≡ some a → ⊥
-  unfolding eraseRefusal
+  else-erase : {a : ℕ} → eqb BUSY a ≡ false → eqb RESERVE a ≡ false → unlessFree l ≡ some a → ⊥
+  unfolding unlessFree
   else-erase d r = or-else (unlessIdle (l .state)) _ (idle-else (l .state) d) (set-else (l .append-client) r)
 
   -- a row of a number that is no driver's word
-  erase-row : {a : ℕ} {C : Type 0} → leb 3 a ≡ true → (orElse (gate w l volume page hold) (eraseRefusal l) ≡ some a) ↔ C → Row (eraseCall w l volume page hold word) l a C (Unit {0})
+  erase-row : {a : ℕ} {C : Type 0} → leb 3 a ≡ true → (orElse (gate w l volume page hold) (unlessFree l) ≡ some a) ↔ C → Row (eraseCall w l volume page hold word) l a C (Unit {0})
   unfolding eraseCall
   erase-row {a} h i =
-      unless-row (orElse (gate w l volume page hold) (eraseRefusal l)) (eraseStarts l word) refl (λ (q : wordNumber word ≡ a). omega (arith, word-most word, leb-true 3 a h)) i
-      (λ (e : orElse (gate w l volume page hold) (eraseRefusal l) ≡ some a). tt)
+      unless-row (orElse (gate w l volume page hold) (unlessFree l)) (eraseStarts l word) refl (λ (q : wordNumber word ≡ a). omega (arith, word-most word, leb-true 3 a h)) i
+      (λ (e : orElse (gate w l volume page hold) (unlessFree l) ≡ some a). tt)
 
   -- SHAPE
   pub erase-shape : Row (eraseCall w l volume page hold word) l SHAPE (shapeFits w (l .geometry) volume page hold ≡ false) (Unit {0})
@@ -372,7 +373,7 @@ module _ (w : ℕ) (l : Log) (volume page hold : ℕ) (word : Word) where
 
   -- RESERVE: "client not set"
   pub erase-reserve : Row (eraseCall w l volume page hold word) l RESERVE (Passed w l volume page hold × ((l .state ≡ Idle) × (l .append-client ≡ false))) (Unit {0})
-  unfolding eraseRefusal
+  unfolding unlessFree
   erase-reserve =
       erase-row refl
       (check-rest w l _ _ _ _ refl refl
@@ -380,33 +381,33 @@ module _ (w : ℕ) (l : Log) (volume page hold : ℕ) (word : Word) where
       (set-some (l .append-client))))
 
   -- what it leaves where it starts
-  erase-leaves : {D : Type 0} → orElse (gate w l volume page hold) (eraseRefusal l) ≡ none → D → eraseCall w l volume page hold word ≡ eraseStarts l word
+  erase-leaves : {D : Type 0} → orElse (gate w l volume page hold) (unlessFree l) ≡ none → D → eraseCall w l volume page hold word ≡ eraseStarts l word
   unfolding eraseCall
   erase-leaves e d = rw e
 
   -- BUSY: "state not Idle; or the driver's word"
   pub erase-busy : WordRow (eraseCall w l volume page hold word) l BUSY (Passed w l volume page hold × (l .state ≡ Idle → ⊥)) (Unit {0})
-      ((orElse (gate w l volume page hold) (eraseRefusal l) ≡ none) × (word ≡ busy)) (eraseCall w l volume page hold word ≡ eraseStarts l word)
-  unfolding eraseCall eraseRefusal
+      ((orElse (gate w l volume page hold) (unlessFree l) ≡ none) × (word ≡ busy)) (eraseCall w l volume page hold word ≡ eraseStarts l word)
+  unfolding eraseCall unlessFree
   erase-busy =
-      word-row (orElse (gate w l volume page hold) (eraseRefusal l)) (eraseStarts l word) refl
+      word-row (orElse (gate w l volume page hold) (unlessFree l)) (eraseStarts l word) refl
       (check-rest w l _ _ _ _ refl refl (idle-first (l .state) _ (set-else (l .append-client) refl)))
-      (λ (e : orElse (gate w l volume page hold) (eraseRefusal l) ≡ some BUSY). tt) (word-busy word) erase-leaves
+      (λ (e : orElse (gate w l volume page hold) (unlessFree l) ≡ some BUSY). tt) (word-busy word) erase-leaves
 
   -- FAIL: the driver's word alone
   pub erase-fail : WordRow (eraseCall w l volume page hold word) l FAIL ⊥ (Unit {0})
-      ((orElse (gate w l volume page hold) (eraseRefusal l) ≡ none) × (word ≡ fail)) (eraseCall w l volume page hold word ≡ eraseStarts l word)
+      ((orElse (gate w l volume page hold) (unlessFree l) ≡ none) × (word ≡ fail)) (eraseCall w l volume page hold word ≡ eraseStarts l word)
   unfolding eraseCall
   erase-fail =
-      word-row (orElse (gate w l volume page hold) (eraseRefusal l)) (eraseStarts l word) refl
+      word-row (orElse (gate w l volume page hold) (unlessFree l)) (eraseStarts l word) refl
       (never-iff (or-else (gate w l volume page hold) _ (gate-else w l _ _ _ refl refl) (else-erase refl refl)))
-      (λ (e : orElse (gate w l volume page hold) (eraseRefusal l) ≡ some FAIL). tt) (word-fail word) erase-leaves
+      (λ (e : orElse (gate w l volume page hold) (unlessFree l) ≡ some FAIL). tt) (word-fail word) erase-leaves
 
   -- OK: the driver's word
-  pub erase-ok : BodyRow (eraseCall w l volume page hold word) (eraseStarts l word) OK ((orElse (gate w l volume page hold) (eraseRefusal l) ≡ none) × (word ≡ ok)) (Unit {0})
+  pub erase-ok : BodyRow (eraseCall w l volume page hold word) (eraseStarts l word) OK ((orElse (gate w l volume page hold) (unlessFree l) ≡ none) × (word ≡ ok)) (Unit {0})
   unfolding eraseCall
   erase-ok =
-      body-row l (orElse (gate w l volume page hold) (eraseRefusal l)) (eraseStarts l word) refl
+      body-row l (orElse (gate w l volume page hold) (unlessFree l)) (eraseStarts l word) refl
       (or-else (gate w l volume page hold) _ (gate-else w l _ _ _ refl refl) (else-erase refl refl)) (both-iff Iff·rfl (word-ok word)) (λ x. refl) (λ e x. tt)
 
   -- no other number is an answer
@@ -414,7 +415,7 @@ module _ (w : ℕ) (l : Log) (volume page hold : ℕ) (word : Word) where
   unfolding eraseCall
   erase-else {a} x s t r =
       let big = leb-true 3 a x in
-      unless-else l (orElse (gate w l volume page hold) (eraseRefusal l)) (eraseStarts l word) refl
+      unless-else l (orElse (gate w l volume page hold) (unlessFree l)) (eraseStarts l word) refl
       (or-else (gate w l volume page hold) _ (gate-else w l _ _ _ s t) (else-erase (ne-eqb BUSY a (λ e. omega arith)) r))
       (λ (q : wordNumber word ≡ a). omega (arith, word-most word))
 
@@ -512,14 +513,14 @@ module _ {w : ℕ} {l : Log} {volume page hold : List ℕ} {good : Bool} {o : Ou
 
 -- sync's checks in one: "A mod P = 4 answers OK, even when busy, with no report; then BUSY, RESERVE"
 abbrev pub syncChecks : ℕ → Log → ℕ → ℕ → ℕ → Option ℕ
-syncChecks w l volume page hold = orElse (gate w l volume page hold) (orElse (pick (synced w l) (some OK) none) (syncRefusal l))
+syncChecks w l volume page hold = orElse (gate w l volume page hold) (orElse (pick (synced w l) (some OK) none) (unlessFree l))
 
 -- sync
 module _ {w : ℕ} {l : Log} {volume page hold : List ℕ} {word : Word} {o : Outcome} {page' : List ℕ} (c : Syncs w l volume page hold word o page') where
   -- it is a flush unless its checks refuse
   sync-runs : o ≡ unless (syncChecks w l (length volume) (length page) (length hold)) l (flush w l Sync (l .kept) word)
   unfolding syncRuns
-  sync-runs = c .answers ∙ go (gate w l (length volume) (length page) (length hold)) (synced w l) (syncRefusal l)
+  sync-runs = c .answers ∙ go (gate w l (length volume) (length page) (length hold)) (synced w l) (unlessFree l)
     where
       go : (g : Option ℕ) (s : Bool) (r : Option ℕ)
           → unless g l (pick s (refusal l OK) (unless r l (flush w l Sync (l .kept) word))) ≡ unless (orElse g (orElse (pick s (some OK) none) r)) l (flush w l Sync (l .kept) word)
@@ -530,7 +531,7 @@ module _ {w : ℕ} {l : Log} {volume page hold : List ℕ} {word : Word} {o : Ou
   -- and so is what it leaves in the page buffer
   sync-pages : page' ≡ keep (syncChecks w l (length volume) (length page) (length hold)) page (flushedPage l page)
   unfolding syncPage
-  sync-pages = c .pages ∙ go (gate w l (length volume) (length page) (length hold)) (synced w l) (syncRefusal l)
+  sync-pages = c .pages ∙ go (gate w l (length volume) (length page) (length hold)) (synced w l) (unlessFree l)
     where
       go : (g : Option ℕ) (s : Bool) (r : Option ℕ)
           → keep g page (pick s page (keep r page (flushedPage l page))) ≡ keep (orElse g (orElse (pick s (some OK) none) r)) page (flushedPage l page)
@@ -539,8 +540,8 @@ module _ {w : ℕ} {l : Log} {volume page hold : List ℕ} {word : Word} {o : Ou
       go none false r = refl
 
   -- numbers that its checks don't give
-  else-sync : {a : ℕ} → eqb OK a ≡ false → eqb BUSY a ≡ false → eqb RESERVE a ≡ false → orElse (pick (synced w l) (some OK) none) (syncRefusal l) ≡ some a → ⊥
-  unfolding syncRefusal
+  else-sync : {a : ℕ} → eqb OK a ≡ false → eqb BUSY a ≡ false → eqb RESERVE a ≡ false → orElse (pick (synced w l) (some OK) none) (unlessFree l) ≡ some a → ⊥
+  unfolding unlessFree
   else-sync e d r =
       or-else (pick (synced w l) (some OK) none) _ (test-else (synced w l) OK e)
       (or-else (unlessIdle (l .state)) _ (idle-else (l .state) d) (set-else (l .append-client) r))
@@ -561,7 +562,7 @@ module _ {w : ℕ} {l : Log} {volume page hold : List ℕ} {word : Word} {o : Ou
 
   -- RESERVE: "client not set"
   pub sync-reserve : Row o l RESERVE (Passed w l (length volume) (length page) (length hold) × ((synced w l ≡ false) × ((l .state ≡ Idle) × (l .append-client ≡ false)))) (page' ≡ page)
-  unfolding syncRefusal
+  unfolding unlessFree
   sync-reserve =
       sync-row refl
       (check-rest w l _ _ _ _ refl refl
@@ -576,7 +577,7 @@ module _ {w : ℕ} {l : Log} {volume page hold : List ℕ} {word : Word} {o : Ou
   -- BUSY: "state not Idle; or the driver's word"
   pub sync-busy : WordRow o l BUSY (Passed w l (length volume) (length page) (length hold) × ((synced w l ≡ false) × (l .state ≡ Idle → ⊥))) (page' ≡ page)
       ((syncChecks w l (length volume) (length page) (length hold) ≡ none) × (word ≡ busy)) ((o ≡ flush w l Sync (l .kept) word) × (page' ≡ flushedPage l page))
-  unfolding syncRefusal flush
+  unfolding unlessFree flush
   sync-busy =
       word-row _ (flush w l Sync (l .kept) word) sync-runs
       (check-rest w l _ _ _ _ refl refl
@@ -596,7 +597,7 @@ module _ {w : ℕ} {l : Log} {volume page hold : List ℕ} {word : Word} {o : Ou
   -- OK: "A mod P = 4 answers OK, even when busy, with no report"; or the driver's word
   pub sync-ok : WordRow o l OK (Passed w l (length volume) (length page) (length hold) × (synced w l ≡ true)) (page' ≡ page)
       ((syncChecks w l (length volume) (length page) (length hold) ≡ none) × (word ≡ ok)) ((o ≡ flush w l Sync (l .kept) word) × (page' ≡ flushedPage l page))
-  unfolding syncRefusal flush
+  unfolding unlessFree flush
   sync-ok =
       word-row _ (flush w l Sync (l .kept) word) sync-runs
       (check-rest w l _ _ _ _ refl refl

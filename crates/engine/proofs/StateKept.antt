@@ -22,19 +22,20 @@ use Rattle.log.specs.Log.{State, Idle, Read, Seek, Append, Sync, Erase, Log}
 use Rattle.log.specs.Check.{keptFits, stateFits}
 use Rattle.log.proofs.Checks.{StateFits, state-fits, fits-state, offset-in}
 use Rattle.log.proofs.Opens.{may-open}
-use Rattle.engine.specs.Outcome.{Outcome, Word, ok, busy, fail, orElse, refusal, unless, moved, inState}
-use Rattle.engine.specs.Gate.{gate, unlessIdle, unlessSet, unlessDeferred}
-use Rattle.engine.specs.Flush.{lostPage, movedRead, movedOldest, stateAfter, flush}
-use Rattle.engine.specs.Append.{fitsPage, appendRefusal, stored, appendRuns, appendChecks}
-use Rattle.engine.specs.Sync.{synced, syncRefusal, syncRuns}
-use Rattle.engine.specs.WriteComplete.{opensNext, opened, notStored, syncDone, appendWritten, opensAfterSync, syncWritten, writeRuns, writeChecks}
-use Rattle.engine.specs.Read.{canceled, readEntry, readLength, readPlace, found, readRuns, readChecks}
-use Rattle.engine.specs.Seek.{seekRefusal, sought, seek}
-use Rattle.engine.specs.Deferred.{deferred}
-use Rattle.engine.specs.Erase.{lastErased, reset, erasesNext, eraseRefusal, eraseStarts, eraseCall, eraseRuns, eraseChecks}
-use Rattle.engine.proofs.Gates.{shaped}
-use Rattle.engine.proofs.AppendLaws.{or-none, accepted, fits-page}
-use Rattle.engine.proofs.ReadLaws.{next-below, lengthy}
+use Rattle.call.specs.Outcome.{Outcome, Word, ok, busy, fail, orElse, refusal, unless, moved, inState}
+use Rattle.call.specs.Gate.{gate, unlessIdle, unlessSet, unlessDeferred, unlessFree}
+use Rattle.writing.specs.Flush.{lostPage, movedRead, movedOldest, stateAfter, flush}
+use Rattle.writing.specs.Append.{fitsPage, appendRefusal, stored, appendRuns, appendChecks}
+use Rattle.writing.specs.Sync.{synced, syncRuns}
+use Rattle.writing.specs.WriteComplete.{opensNext, opened, notStored, syncDone, appendWritten, opensAfterSync, syncWritten, writeRuns, writeChecks}
+use Rattle.reading.specs.Read.{canceled, readEntry, readLength, readPlace, found, readRuns, readChecks}
+use Rattle.reading.specs.Seek.{seekRefusal, sought, seek}
+use Rattle.reading.specs.Deferred.{deferred}
+use Rattle.erasing.specs.Erase.{lastErased, reset, erasesNext, eraseStarts, eraseCall, eraseRuns, eraseChecks}
+use Rattle.call.proofs.Gates.{shaped}
+use Rattle.call.proofs.Checks.{or-none}
+use Rattle.writing.proofs.AppendLaws.{accepted, fits-page}
+use Rattle.reading.proofs.ReadLaws.{next-below, lengthy}
 
 -- A lies past the header of the page of byte A - 1
 past-last : (a : ℕ) {p w : ℕ} → 0 < p → w ≤ p → 0 < a → (a % p ≡ 0) ⊎ (w ≤ a % p) → (a - 1) / p * p + w ≤ a
@@ -171,7 +172,7 @@ append-fits {w} l z s room n word e = go (fitsPage w l n) refl
 -- the state after a sync satisfies STATE
 pub sync-fits : {w : ℕ} (l : Log) → Sizes w (l .geometry .p) (l .geometry .n) → StateFits w l → (word : Word) → StateFits w (syncRuns w l word .log)
 unfolding syncRuns
-sync-fits {w} l z s word = go (synced w l) (syncRefusal l)
+sync-fits {w} l z s word = go (synced w l) (unlessFree l)
   where
     go : (b : Bool) (c : Option ℕ) → StateFits w (pick b (refusal l OK) (unless c l (flush w l Sync (l .kept) word)) .log)
     go true c = s
@@ -424,7 +425,7 @@ deferred-keeps w l volume page hold h =
 pub erase-call-keeps : (w : ℕ) (l : Log) (volume page hold : ℕ) (word : Word) → stateFits w l ≡ true → stateFits w (eraseCall w l volume page hold word .log) ≡ true
 unfolding eraseCall
 erase-call-keeps w l volume page hold word h =
-    kept-unless (orElse (gate w l volume page hold) (eraseRefusal l)) l (eraseStarts l word) h (λ e s. erase-starts-fits l s word)
+    kept-unless (orElse (gate w l volume page hold) (unlessFree l)) l (eraseStarts l word) h (λ e s. erase-starts-fits l s word)
 
 -- an erase's completion keeps STATE
 pub erase-keeps : {w : ℕ} → Width w → (l : Log) (volume page hold : ℕ) (good : Bool) (word : Word) → stateFits w l ≡ true
@@ -475,7 +476,7 @@ unfolding syncRuns
 sync-rests w l volume page hold word =
     let body : Outcome = flush w l Sync (l .kept) word in
     rests-unless (gate w l volume page hold) l (syncRuns w l word)
-    (rests-pick (synced w l) (refusal l OK) (unless (syncRefusal l) l body) (rests-refused l OK) (rests-unless (syncRefusal l) l body (flush-rests w l Sync (l .kept) word)))
+    (rests-pick (synced w l) (refusal l OK) (unless (unlessFree l) l body) (rests-refused l OK) (rests-unless (unlessFree l) l body (flush-rests w l Sync (l .kept) word)))
 
 -- a write's completion leaves Idle, in each state in which it is due
 write-runs-rests : (w : ℕ) (l : Log) (good : Bool) (state : State) → Rests (writeRuns w l good state)
@@ -527,7 +528,7 @@ deferred-rests w l volume page hold = rests-unless (orElse (gate w l volume page
 pub erase-call-rests : (w : ℕ) (l : Log) (volume page hold : ℕ) (word : Word) → Rests (eraseCall w l volume page hold word)
 unfolding eraseCall
 erase-call-rests w l volume page hold word =
-    rests-unless (orElse (gate w l volume page hold) (eraseRefusal l)) l (eraseStarts l word) (λ h. absurd (h refl))
+    rests-unless (orElse (gate w l volume page hold) (unlessFree l)) l (eraseStarts l word) (λ h. absurd (h refl))
 
 -- an erase that goes on reports in Idle alone
 next-rests : (l : Log) (word : Word) → Rests (erasesNext l word)

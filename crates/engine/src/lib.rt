@@ -1,11 +1,1 @@
-// The log's calls, over its state and the page layer.
-pub mod append;
-pub mod deferred;
-pub mod erase;
-mod flush;
-mod gate;
-pub mod outcome;
-pub mod read;
-pub mod seek;
-pub mod sync;
-pub mod write_complete;
+// The calls of the log taken together: the theorems about all of them. The functions stand in the crates below.
