@@ -67,7 +67,10 @@ fn erase(text: &[u8], log: Log, word: Driver) -> Log {
     let volume = [255u8; 128];
     let page = [0u8; 32];
     let hold = [0u8; 32];
-    outcome::line(text, erasing::erase::erase(log, &volume, &page, &hold, word))
+    outcome::line(
+        text,
+        erasing::erase::erase(log, &volume, &page, &hold, word),
+    )
 }
 
 fn erased(text: &[u8], log: Log, good: bool, word: Driver) -> Log {

@@ -1,0 +1,30 @@
+-- `bench::flash::end_erase` meets its contract.
+use mathlib.Core.Path.{_≡_, refl, sym, ap, _∙_}
+use borrow.Author.Needs.{needs}
+use Rattle.bench.proofs.flash.end_erase.Statement.{statement}
+use Rattle.bench.proofs.flash.end_erase.Tie as tie
+use Rattle.bench.proofs.flash.end_erase.Reads as reads
+use Rattle.bench.proofs.flash.end_erase.Lts as lts
+use Rattle.bench.proofs.flash.blank_slot.Reads as blank-slot-reads
+
+enum-told : tie.Need-enum-told
+enum-told c = search needs
+
+enum-told-2 : tie.Need-enum-told-2
+enum-told-2 c = search needs
+
+blank-slot-requires : tie.Need-blank-slot-requires
+blank-slot-requires c κs = search needs
+
+returns : tie.Need-returns
+returns c = search needs
+
+same-length : tie.Need-same-length
+same-length c = search needs
+
+returns-2 : tie.Need-returns-2
+returns-2 c = rw (c .before .before .before .before .enum-told2 .given .1) (c .before .before .blank-slot .ensures)
+
+pub end-erase-spec : {M : Type 1} → statement M
+end-erase-spec =
+    tie.close (tie.spec enum-told enum-told-2 blank-slot-requires returns same-length returns-2)

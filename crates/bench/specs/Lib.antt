@@ -1,0 +1,2 @@
+-- "Bench flash and page book".
+pub mod Flash

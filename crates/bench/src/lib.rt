@@ -1,0 +1,2 @@
+// The bench: a flash whose operations start, complete and leave what document 01 allows.
+pub mod flash;
