@@ -1,0 +1,205 @@
+// Replays a script of calls, read from standard input, and writes the trace.
+mod parse;
+mod run;
+mod start;
+mod text;
+mod trace;
+mod world;
+
+ghost use mathlib.Core.Path.{_≡_};
+ghost use lib.ListN.{length};
+use libc::STDIN_FILENO;
+use parse::Fault;
+use parse::Line;
+use world::Stage;
+use world::World;
+
+// The bytes of the longest script.
+const SCRIPT_SIZE: usize = 4194304;
+
+// A line after the first three runs on the parts of the buffers that are in use.
+fn on_parts(
+    world: World,
+    line: Line,
+    volume: &mut [u8],
+    page: &mut [u8],
+    hold: &mut [u8],
+    client: &mut [u8],
+    out: &mut [u8],
+) -> World {
+    run::run_line(
+        world,
+        line,
+        text::front(volume, world.volume),
+        text::front(page, world.page),
+        text::front(hold, world.hold),
+        client,
+        out,
+    )
+}
+
+fn called(
+    world: World,
+    line: &[u8],
+    volume: &mut [u8],
+    page: &mut [u8],
+    hold: &mut [u8],
+    client: &mut [u8],
+    out: &mut [u8],
+) -> World {
+    let parsed = parse::parse_line(line, client);
+    on_parts(world, parsed, volume, page, hold, client, out)
+}
+
+// A line of the script, by what is due.
+fn staged(
+    world: World,
+    line: &[u8],
+    volume: &mut [u8],
+    page: &mut [u8],
+    hold: &mut [u8],
+    client: &mut [u8],
+    out: &mut [u8],
+) -> World {
+    let stage = world.stage;
+    match stage {
+        Stage::Sizes => start::sizes(line, world),
+        Stage::Volume => start::volume(line, world, volume),
+        Stage::Restart => start::restart(line, world, volume, page, hold, out),
+        Stage::Calls => called(world, line, volume, page, hold, client, out),
+    }
+}
+
+// An empty line, and one that begins with `#`, is passed over.
+fn step(
+    world: World,
+    line: &[u8],
+    volume: &mut [u8],
+    page: &mut [u8],
+    hold: &mut [u8],
+    client: &mut [u8],
+    out: &mut [u8],
+) -> World {
+    if line.len() == 0 {
+        return world;
+    }
+    if line[0] == b'#' {
+        return world;
+    }
+    staged(world, line, volume, page, hold, client, out)
+}
+
+fn is_faulty(fault: Fault) -> bool {
+    match fault {
+        Fault::Nothing => false,
+        Fault::Unknown => true,
+        Fault::Place => true,
+        Fault::Words => true,
+        Fault::Number => true,
+        Fault::Bytes => true,
+        Fault::Word => true,
+        Fault::Volume => true,
+        Fault::Long => true,
+    }
+}
+
+// What is wrong with a line, in words.
+fn message(fault: Fault, out: &mut [u8], at: usize) -> usize {
+    match fault {
+        Fault::Nothing => at,
+        Fault::Unknown => trace::put(out, at, b"no line begins with this word"),
+        Fault::Place => trace::put(out, at, b"this line is out of its place"),
+        Fault::Words => trace::put(out, at, b"this line has too many words"),
+        Fault::Number => trace::put(out, at, b"a number is missing or too large"),
+        Fault::Bytes => trace::put(out, at, b"bytes are missing, too many or not hexadecimal"),
+        Fault::Word => trace::put(out, at, b"a word is missing or may not stand there"),
+        Fault::Volume => trace::put(out, at, b"the volume has more than 65,536 bytes"),
+        Fault::Long => trace::put(out, at, b"the script has more than 4 MiB"),
+    }
+}
+
+fn complain(fault: Fault, number: usize, out: &mut [u8]) {
+    let start = trace::put(out, 0, b"line");
+    let middle = trace::number(out, start, number);
+    let colon = trace::put(out, middle, b": ");
+    let stop = message(fault, out, colon);
+    trace::end(out, stop);
+}
+
+// The line from `at` to `stop`. One that goes past 4 MiB is wrong.
+fn next(
+    world: World,
+    script: &[u8],
+    at: usize,
+    stop: usize,
+    volume: &mut [u8],
+    page: &mut [u8],
+    hold: &mut [u8],
+    client: &mut [u8],
+    out: &mut [u8],
+) -> World {
+    if SCRIPT_SIZE <= stop {
+        if SCRIPT_SIZE < script.len() {
+            return world::faulty(world, Fault::Long);
+        }
+    }
+    step(
+        world,
+        text::part(script, at, stop),
+        volume,
+        page,
+        hold,
+        client,
+        out,
+    )
+}
+
+// Runs the lines of a script to its end or its first wrong line.
+fn replay(
+    script: &[u8],
+    volume: &mut [u8],
+    page: &mut [u8],
+    hold: &mut [u8],
+    client: &mut [u8],
+    out: &mut [u8],
+) {
+    let mut world = world::empty();
+    let mut number: usize = 0;
+    let mut at: usize = 0;
+    while at < script.len() {
+        let stop = text::find(script, at, b'\n');
+        number += 1;
+        world = next(world, script, at, stop, volume, page, hold, client, out);
+        let fault = world.fault;
+        if is_faulty(fault) {
+            complain(fault, number, out);
+            return;
+        }
+        at = text::after(stop, script.len());
+    }
+}
+
+// Room for the longest script and one byte more.
+fn script_buffer() -> [u8; 4194305]
+    ensures { λ r. ⌜ 4194305 ≡ length r ⌝ }
+{
+    [0; 4194305]
+}
+
+fn main() {
+    let mut script = script_buffer();
+    let mut volume = [0u8; 65536];
+    let mut page = [0u8; 8192];
+    let mut hold = [0u8; 8192];
+    let mut client = [0u8; 8192];
+    let mut out = [0u8; 131328];
+    let n = io::read_full(STDIN_FILENO, &mut script);
+    replay(
+        text::part(&script, 0, n),
+        &mut volume,
+        &mut page,
+        &mut hold,
+        &mut client,
+        &mut out,
+    );
+}

@@ -1,0 +1,204 @@
+// A line of the trace, put together in a buffer and written at its end. `at` is the offset of the next byte.
+use crate::text;
+use call::outcome::Outcome;
+use libc::STDOUT_FILENO;
+use log::answer::Answer;
+use log::answer::Appended;
+use log::answer::Erased;
+use log::answer::Report;
+use log::answer::Request;
+use log::answer::Synced;
+use log::state::Log;
+use log::state::State;
+
+// A byte goes to the line; one that has no room is left out.
+fn put_byte(line: &mut [u8], at: usize, byte: u8) -> usize {
+    if at < line.len() {
+        line[at] = byte;
+        return at + 1;
+    }
+    at
+}
+
+// A word goes to the line.
+pub(crate) fn put(line: &mut [u8], at: usize, word: &[u8]) -> usize {
+    let mut end = at;
+    let mut i: usize = 0;
+    while i < word.len() {
+        end = put_byte(line, end, word[i]);
+        i += 1;
+    }
+    end
+}
+
+// A word goes to the line, after a space.
+pub(crate) fn field(line: &mut [u8], at: usize, word: &[u8]) -> usize {
+    let start = put_byte(line, at, b' ');
+    put(line, start, word)
+}
+
+// A number, after a space.
+pub(crate) fn number(line: &mut [u8], at: usize, n: usize) -> usize {
+    let mut digits = [0u8; 20];
+    let count = io::decimal(n as u64, &mut digits);
+    field(line, at, &digits[..count])
+}
+
+// A digit below 16 in hexadecimal.
+fn digit(n: u8) -> u8 {
+    let d = n % 16;
+    if d < 10 { b'0' + d } else { b'a' + (d - 10) }
+}
+
+// BYTES, after a space.
+pub(crate) fn bytes(line: &mut [u8], at: usize, bytes: &[u8]) -> usize {
+    if bytes.len() == 0 {
+        return field(line, at, b"-");
+    }
+    let mut end = put_byte(line, at, b' ');
+    let mut i: usize = 0;
+    while i < bytes.len() {
+        let byte = bytes[i];
+        let middle = put_byte(line, end, digit(byte / 16));
+        end = put_byte(line, middle, digit(byte));
+        i += 1;
+    }
+    end
+}
+
+fn wide(id: u32) -> usize {
+    id as usize
+}
+
+// Words of a survey.
+pub(crate) fn words(line: &mut [u8], at: usize, ids: &[u32]) -> usize {
+    let mut end = at;
+    let mut i: usize = 0;
+    while i < ids.len() {
+        end = number(line, end, wide(ids[i]));
+        i += 1;
+    }
+    end
+}
+
+// A line's name and two numbers.
+pub(crate) fn pair(line: &mut [u8], name: &[u8], a: usize, b: usize) -> usize {
+    let start = put(line, 0, name);
+    let middle = number(line, start, a);
+    number(line, middle, b)
+}
+
+// The line is written.
+pub(crate) fn end(line: &mut [u8], at: usize) {
+    let stop = put_byte(line, at, b'\n');
+    io::write_all(STDOUT_FILENO, text::part(line, 0, stop));
+}
+
+// Document 01's numbers.
+fn answer_number(answer: Answer) -> usize {
+    match answer {
+        Answer::OK => 0,
+        Answer::FAIL => 1,
+        Answer::BUSY => 2,
+        Answer::RESERVE => 5,
+        Answer::INVAL => 6,
+        Answer::SIZE => 7,
+        Answer::CANCEL => 8,
+        Answer::SHAPE => 20,
+        Answer::STATE => 21,
+        Answer::STRAY => 22,
+        Answer::LIMIT => 23,
+    }
+}
+
+fn append_number(result: Appended) -> usize {
+    match result {
+        Appended::OK => 0,
+        Appended::FAIL => 1,
+        Appended::CANCEL => 8,
+    }
+}
+
+fn sync_number(result: Synced) -> usize {
+    match result {
+        Synced::OK => 0,
+        Synced::FAIL => 1,
+    }
+}
+
+fn erase_number(result: Erased) -> usize {
+    match result {
+        Erased::OK => 0,
+        Erased::FAIL => 1,
+        Erased::BUSY => 2,
+    }
+}
+
+fn append_report(line: &mut [u8], at: usize, length: usize, lost: bool, result: Appended) -> usize {
+    let name = field(line, at, b"append_done");
+    let size = number(line, name, length);
+    let flag = number(line, size, if lost { 1 } else { 0 });
+    number(line, flag, append_number(result))
+}
+
+// A report of a name and a number.
+fn named(line: &mut [u8], at: usize, name: &[u8], result: usize) -> usize {
+    let start = field(line, at, name);
+    number(line, start, result)
+}
+
+fn report(line: &mut [u8], at: usize, report: Report) -> usize {
+    match report {
+        Report::Nothing => field(line, at, b"-"),
+        Report::AppendDone(length, lost, result) => append_report(line, at, length, lost, result),
+        Report::SyncDone(result) => named(line, at, b"sync_done", sync_number(result)),
+        Report::EraseDone(result) => named(line, at, b"erase_done", erase_number(result)),
+        Report::ReadDone(length) => read_report(line, at, length),
+        Report::SeekDone => named(line, at, b"seek_done", 0),
+    }
+}
+
+fn read_report(line: &mut [u8], at: usize, length: usize) -> usize {
+    let size = named(line, at, b"read_done", length);
+    number(line, size, 0)
+}
+
+fn request(line: &mut [u8], at: usize, request: Request) -> usize {
+    match request {
+        Request::Nothing => field(line, at, b"-"),
+        Request::Write(page) => named(line, at, b"write", page.0),
+        Request::Erase(page) => named(line, at, b"erase", page.0),
+    }
+}
+
+fn state(line: &mut [u8], at: usize, state: State) -> usize {
+    match state {
+        State::Idle => field(line, at, b"idle"),
+        State::Read => field(line, at, b"read"),
+        State::Seek => field(line, at, b"seek"),
+        State::Append => field(line, at, b"append"),
+        State::Sync => field(line, at, b"sync"),
+        State::Erase => field(line, at, b"erase"),
+    }
+}
+
+// The state and its IDs.
+pub(crate) fn log_fields(line: &mut [u8], at: usize, log: Log) -> usize {
+    let name = log.state;
+    let start = state(line, at, name);
+    let oldest = number(line, start, log.oldest_entry_id.0);
+    let read = number(line, oldest, log.read_entry_id.0);
+    let append = number(line, read, log.append_entry_id.0);
+    number(line, append, log.length)
+}
+
+// All of an outcome, after the call's name.
+pub(crate) fn outcome(line: &mut [u8], at: usize, given: Outcome) -> usize {
+    let answer = given.answer;
+    let said = given.report;
+    let asked = given.request;
+    let first = number(line, at, answer_number(answer));
+    let second = report(line, first, said);
+    let third = request(line, second, asked);
+    log_fields(line, third, given.log)
+}
