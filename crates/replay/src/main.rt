@@ -1,16 +1,21 @@
 // Replays a script of calls, read from standard input, and writes the trace.
-mod parse;
+mod erases;
+mod lines;
+mod other;
+mod reads;
 mod run;
 mod start;
-mod text;
-mod trace;
 mod world;
+mod writes;
 
 ghost use mathlib.Core.Path.{_≡_};
 ghost use lib.ListN.{length};
 use libc::STDIN_FILENO;
-use parse::Fault;
-use parse::Line;
+use script::parse;
+use script::parse::Fault;
+use script::parse::Line;
+use script::text;
+use script::trace;
 use world::Stage;
 use world::World;
 
@@ -19,6 +24,7 @@ const SCRIPT_SIZE: usize = 4194304;
 
 // A line after the first three runs on the parts of the buffers that are in use.
 fn on_parts(
+    name: &[u8],
     world: World,
     line: Line,
     volume: &mut [u8],
@@ -27,7 +33,8 @@ fn on_parts(
     client: &mut [u8],
     out: &mut [u8],
 ) -> World {
-    run::run_line(
+    lines::run_line(
+        name,
         world,
         line,
         text::front(volume, world.volume),
@@ -48,7 +55,16 @@ fn called(
     out: &mut [u8],
 ) -> World {
     let parsed = parse::parse_line(line, client);
-    on_parts(world, parsed, volume, page, hold, client, out)
+    on_parts(
+        text::word(line, 0),
+        world,
+        parsed,
+        volume,
+        page,
+        hold,
+        client,
+        out,
+    )
 }
 
 // A line of the script, by what is due.
@@ -89,40 +105,29 @@ fn step(
     staged(world, line, volume, page, hold, client, out)
 }
 
-fn is_faulty(fault: Fault) -> bool {
+// A fault's place in the list of what is wrong; past its end for none.
+fn fault_number(fault: Fault) -> usize {
     match fault {
-        Fault::Nothing => false,
-        Fault::Unknown => true,
-        Fault::Place => true,
-        Fault::Words => true,
-        Fault::Number => true,
-        Fault::Bytes => true,
-        Fault::Word => true,
-        Fault::Volume => true,
-        Fault::Long => true,
+        Fault::Unknown => 0,
+        Fault::Place => 1,
+        Fault::Words => 2,
+        Fault::Number => 3,
+        Fault::Bytes => 4,
+        Fault::Word => 5,
+        Fault::Volume => 6,
+        Fault::Long => 7,
+        Fault::Nothing => 8,
     }
 }
 
-// What is wrong with a line, in words.
-fn message(fault: Fault, out: &mut [u8], at: usize) -> usize {
-    match fault {
-        Fault::Nothing => at,
-        Fault::Unknown => trace::put(out, at, b"no line begins with this word"),
-        Fault::Place => trace::put(out, at, b"this line is out of its place"),
-        Fault::Words => trace::put(out, at, b"this line has too many words"),
-        Fault::Number => trace::put(out, at, b"a number is missing or too large"),
-        Fault::Bytes => trace::put(out, at, b"bytes are missing, too many or not hexadecimal"),
-        Fault::Word => trace::put(out, at, b"a word is missing or may not stand there"),
-        Fault::Volume => trace::put(out, at, b"the volume has more than 65,536 bytes"),
-        Fault::Long => trace::put(out, at, b"the script has more than 4 MiB"),
-    }
-}
-
+// Says what is wrong with a line, in words.
 fn complain(fault: Fault, number: usize, out: &mut [u8]) {
     let start = trace::put(out, 0, b"line");
     let middle = trace::number(out, start, number);
     let colon = trace::put(out, middle, b": ");
-    let stop = message(fault, out, colon);
+    let list =
+        b"no line begins with this word;this line is out of its place;this line has too many words;a number is missing or too large;bytes are missing, too many or not hexadecimal;a word is missing or may not stand there;the volume has more than 65,536 bytes;the script has more than 4 MiB";
+    let stop = trace::put(out, colon, text::item(list, b';', fault_number(fault)));
     trace::end(out, stop);
 }
 
@@ -171,7 +176,7 @@ fn replay(
         number += 1;
         world = next(world, script, at, stop, volume, page, hold, client, out);
         let fault = world.fault;
-        if is_faulty(fault) {
+        if fault_number(fault) < 8 {
             complain(fault, number, out);
             return;
         }

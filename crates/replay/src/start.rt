@@ -1,12 +1,12 @@
 // The first three lines: sizes, volume and restart.
-use crate::parse::Fault;
-use crate::text;
-use crate::text::Number;
-use crate::trace;
 use crate::world;
 use crate::world::World;
 use log::restart::Restarted;
 use log::state::Log;
+use script::parse::Fault;
+use script::text;
+use script::text::Number;
+use script::trace;
 
 // The buffers' length before the first restart: P where SHAPE admits P, else none.
 fn buffer_size(page_size: usize) -> usize {

@@ -1,10 +1,10 @@
 // What a replay holds between two lines: the log, the flash's operation, the power, and how many bytes of each buffer are in use.
-use crate::parse::Fault;
 use bench::flash::Operation;
 use log::state::Geometry;
 use log::state::Log;
 use log::state::State;
 use page::id::EntryID;
+use script::parse::Fault;
 
 // The line that is due.
 pub(crate) enum Stage {

@@ -30,8 +30,8 @@ add-number c = omega arith
 next-requires : tie.Need-next-requires Inv-loop μ-loop
 next-requires c κs = search needs
 
-is-faulty-requires : tie.Need-is-faulty-requires Inv-loop μ-loop
-is-faulty-requires c κs = search needs
+fault-number-requires : tie.Need-fault-number-requires Inv-loop μ-loop
+fault-number-requires c κs = search needs
 
 complain-requires : tie.Need-complain-requires Inv-loop μ-loop
 complain-requires c κs = search needs
@@ -92,7 +92,7 @@ replay-spec =
     find-requires
     add-number
     next-requires
-    is-faulty-requires
+    fault-number-requires
     complain-requires
     same-length
     same-length-2

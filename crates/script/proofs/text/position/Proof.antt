@@ -1,25 +1,28 @@
--- `replay::text::find` is safe and ends.
+-- `script::text::position` is safe and ends.
 use Prim.Native.Nat.{_+_, _*_, _-_, _/_, _≤_, _<_}
 use native.Mathlib.Omega.{arith}
 use lib.ListN.{length}
 use borrow.Author.Needs.{needs}
-use Rattle.replay.proofs.text.find.Statement.{statement}
-use Rattle.replay.proofs.text.find.Tie as tie
+use Rattle.script.proofs.text.position.Statement.{statement}
+use Rattle.script.proofs.text.position.Tie as tie
 
 abbrev Inv-loop : tie.InvT-loop
-Inv-loop text from byte i₀ i = (from ≤ i) × (i ≤ from + length text)
+Inv-loop wanted list i₀ i = Unit {0}
 
 abbrev μ-loop : tie.MeasureT-loop
-μ-loop text from byte i₀ i = length text - i
+μ-loop wanted list i₀ i = 16 - i
 
 loop-holds : tie.Need-loop-holds Inv-loop μ-loop
-loop-holds c = (omega arith, omega arith)
+loop-holds c = tt
 
-shared-slice-read-if1 : tie.Need-shared-slice-read-if1 Inv-loop μ-loop
-shared-slice-read-if1 c = omega arith
+word-requires : tie.Need-word-requires Inv-loop μ-loop
+word-requires c κs = search needs
+
+same-requires : tie.Need-same-requires Inv-loop μ-loop
+same-requires c κs = search needs
 
 returns : tie.Need-returns Inv-loop μ-loop
-returns c = (omega arith, omega arith)
+returns c = search needs
 
 add-i : tie.Need-add-i Inv-loop μ-loop
 add-i c = omega arith
@@ -28,19 +31,20 @@ loop-less : tie.Need-loop-less Inv-loop μ-loop
 loop-less c = omega arith
 
 loop-again : tie.Need-loop-again Inv-loop μ-loop
-loop-again c = (omega arith, omega arith)
+loop-again c = tt
 
 returns-2 : tie.Need-returns-2 Inv-loop μ-loop
-returns-2 c = (omega arith, omega arith)
+returns-2 c = search needs
 
-pub find-spec : {M : Type 1} → statement M
-find-spec =
+pub position-spec : {M : Type 1} → statement M
+position-spec =
     tie.close
     (tie.spec
     Inv-loop
     μ-loop
     loop-holds
-    shared-slice-read-if1
+    word-requires
+    same-requires
     returns
     add-i
     loop-less

@@ -1,11 +1,11 @@
--- `replay::trace::bytes` is safe and ends.
+-- `script::trace::bytes` is safe and ends.
 use Prim.Native.Nat.{_+_, _*_, _-_, _/_, _≤_, _<_}
 use native.Mathlib.Omega.{arith}
 use mathlib.Core.Path.{_≡_, refl}
 use lib.ListN.{length}
 use borrow.Author.Needs.{needs}
-use Rattle.replay.proofs.trace.bytes.Statement.{statement}
-use Rattle.replay.proofs.trace.bytes.Tie as tie
+use Rattle.script.proofs.trace.bytes.Statement.{statement}
+use Rattle.script.proofs.trace.bytes.Tie as tie
 
 abbrev Inv-loop : tie.InvT-loop
 Inv-loop line₀ at bytes end₀ i₀ line end i = length line ≡ length line₀

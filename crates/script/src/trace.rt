@@ -21,7 +21,7 @@ fn put_byte(line: &mut [u8], at: usize, byte: u8) -> usize {
 }
 
 // A word goes to the line.
-pub(crate) fn put(line: &mut [u8], at: usize, word: &[u8]) -> usize {
+pub fn put(line: &mut [u8], at: usize, word: &[u8]) -> usize {
     let mut end = at;
     let mut i: usize = 0;
     while i < word.len() {
@@ -32,13 +32,13 @@ pub(crate) fn put(line: &mut [u8], at: usize, word: &[u8]) -> usize {
 }
 
 // A word goes to the line, after a space.
-pub(crate) fn field(line: &mut [u8], at: usize, word: &[u8]) -> usize {
+pub fn field(line: &mut [u8], at: usize, word: &[u8]) -> usize {
     let start = put_byte(line, at, b' ');
     put(line, start, word)
 }
 
 // A number, after a space.
-pub(crate) fn number(line: &mut [u8], at: usize, n: usize) -> usize {
+pub fn number(line: &mut [u8], at: usize, n: usize) -> usize {
     let mut digits = [0u8; 20];
     let count = io::decimal(n as u64, &mut digits);
     field(line, at, &digits[..count])
@@ -51,7 +51,7 @@ fn digit(n: u8) -> u8 {
 }
 
 // BYTES, after a space.
-pub(crate) fn bytes(line: &mut [u8], at: usize, bytes: &[u8]) -> usize {
+pub fn bytes(line: &mut [u8], at: usize, bytes: &[u8]) -> usize {
     if bytes.len() == 0 {
         return field(line, at, b"-");
     }
@@ -71,7 +71,7 @@ fn wide(id: u32) -> usize {
 }
 
 // Words of a survey.
-pub(crate) fn words(line: &mut [u8], at: usize, ids: &[u32]) -> usize {
+pub fn words(line: &mut [u8], at: usize, ids: &[u32]) -> usize {
     let mut end = at;
     let mut i: usize = 0;
     while i < ids.len() {
@@ -82,14 +82,14 @@ pub(crate) fn words(line: &mut [u8], at: usize, ids: &[u32]) -> usize {
 }
 
 // A line's name and two numbers.
-pub(crate) fn pair(line: &mut [u8], name: &[u8], a: usize, b: usize) -> usize {
+pub fn pair(line: &mut [u8], name: &[u8], a: usize, b: usize) -> usize {
     let start = put(line, 0, name);
     let middle = number(line, start, a);
     number(line, middle, b)
 }
 
 // The line is written.
-pub(crate) fn end(line: &mut [u8], at: usize) {
+pub fn end(line: &mut [u8], at: usize) {
     let stop = put_byte(line, at, b'\n');
     io::write_all(STDOUT_FILENO, text::part(line, 0, stop));
 }
@@ -141,51 +141,53 @@ fn append_report(line: &mut [u8], at: usize, length: usize, lost: bool, result: 
     number(line, flag, append_number(result))
 }
 
-// A report of a name and a number.
-fn named(line: &mut [u8], at: usize, name: &[u8], result: usize) -> usize {
-    let start = field(line, at, name);
-    number(line, start, result)
+// A name out of the list of those that a number follows, and the number.
+fn named(line: &mut [u8], at: usize, name: usize, n: usize) -> usize {
+    let list = b"sync_done erase_done read_done seek_done write erase";
+    let start = field(line, at, text::word(list, name));
+    number(line, start, n)
 }
 
 fn report(line: &mut [u8], at: usize, report: Report) -> usize {
     match report {
         Report::Nothing => field(line, at, b"-"),
         Report::AppendDone(length, lost, result) => append_report(line, at, length, lost, result),
-        Report::SyncDone(result) => named(line, at, b"sync_done", sync_number(result)),
-        Report::EraseDone(result) => named(line, at, b"erase_done", erase_number(result)),
+        Report::SyncDone(result) => named(line, at, 0, sync_number(result)),
+        Report::EraseDone(result) => named(line, at, 1, erase_number(result)),
         Report::ReadDone(length) => read_report(line, at, length),
-        Report::SeekDone => named(line, at, b"seek_done", 0),
+        Report::SeekDone => named(line, at, 3, 0),
     }
 }
 
 fn read_report(line: &mut [u8], at: usize, length: usize) -> usize {
-    let size = named(line, at, b"read_done", length);
+    let size = named(line, at, 2, length);
     number(line, size, 0)
 }
 
 fn request(line: &mut [u8], at: usize, request: Request) -> usize {
     match request {
         Request::Nothing => field(line, at, b"-"),
-        Request::Write(page) => named(line, at, b"write", page.0),
-        Request::Erase(page) => named(line, at, b"erase", page.0),
+        Request::Write(page) => named(line, at, 4, page.0),
+        Request::Erase(page) => named(line, at, 5, page.0),
     }
 }
 
-fn state(line: &mut [u8], at: usize, state: State) -> usize {
+fn state_number(state: State) -> usize {
     match state {
-        State::Idle => field(line, at, b"idle"),
-        State::Read => field(line, at, b"read"),
-        State::Seek => field(line, at, b"seek"),
-        State::Append => field(line, at, b"append"),
-        State::Sync => field(line, at, b"sync"),
-        State::Erase => field(line, at, b"erase"),
+        State::Idle => 0,
+        State::Read => 1,
+        State::Seek => 2,
+        State::Append => 3,
+        State::Sync => 4,
+        State::Erase => 5,
     }
 }
 
 // The state and its IDs.
-pub(crate) fn log_fields(line: &mut [u8], at: usize, log: Log) -> usize {
-    let name = log.state;
-    let start = state(line, at, name);
+pub fn log_fields(line: &mut [u8], at: usize, log: Log) -> usize {
+    let state = log.state;
+    let list = b"idle read seek append sync erase";
+    let start = field(line, at, text::word(list, state_number(state)));
     let oldest = number(line, start, log.oldest_entry_id.0);
     let read = number(line, oldest, log.read_entry_id.0);
     let append = number(line, read, log.append_entry_id.0);
@@ -193,7 +195,7 @@ pub(crate) fn log_fields(line: &mut [u8], at: usize, log: Log) -> usize {
 }
 
 // All of an outcome, after the call's name.
-pub(crate) fn outcome(line: &mut [u8], at: usize, given: Outcome) -> usize {
+pub fn outcome(line: &mut [u8], at: usize, given: Outcome) -> usize {
     let answer = given.answer;
     let said = given.report;
     let asked = given.request;

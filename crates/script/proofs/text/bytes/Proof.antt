@@ -1,11 +1,11 @@
--- `replay::text::bytes` is safe and ends.
+-- `script::text::bytes` is safe and ends.
 use Prim.Native.Nat.{_+_, _*_, _-_, _/_, _≤_, _<_}
 use native.Mathlib.Omega.{arith}
 use mathlib.Core.Path.{_≡_, refl}
 use lib.ListN.{length, length-set}
 use borrow.Author.Needs.{needs}
-use Rattle.replay.proofs.text.bytes.Statement.{statement}
-use Rattle.replay.proofs.text.bytes.Tie as tie
+use Rattle.script.proofs.text.bytes.Statement.{statement}
+use Rattle.script.proofs.text.bytes.Tie as tie
 
 abbrev Inv-loop : tie.InvT-loop
 Inv-loop word out₀ i₀ out i = (length out ≡ length out₀) × (length word / 2 ≤ length out₀)

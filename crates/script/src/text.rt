@@ -3,7 +3,7 @@ ghost use Prim.Native.Nat.{_+_, _-_, _≤_};
 ghost use lib.ListN.{length};
 
 // The part of a text from `from` to `to`; none where it has no such part.
-pub(crate) fn part<'a>(text: &'a [u8], from: usize, to: usize) -> &'a [u8] {
+pub fn part<'a>(text: &'a [u8], from: usize, to: usize) -> &'a [u8] {
     if to < from {
         return &text[..0];
     }
@@ -14,7 +14,7 @@ pub(crate) fn part<'a>(text: &'a [u8], from: usize, to: usize) -> &'a [u8] {
 }
 
 // Where the next `byte` stands, from an offset on, or the text's end where there is none.
-pub(crate) fn find(text: &[u8], from: usize, byte: u8) -> usize
+pub fn find(text: &[u8], from: usize, byte: u8) -> usize
     ensures { λ r. ⌜ (from ≤ r) × (r ≤ from + length (now (text .entry))) ⌝ }
 {
     let mut i = from;
@@ -27,37 +27,57 @@ pub(crate) fn find(text: &[u8], from: usize, byte: u8) -> usize
     i
 }
 
-// The start of the word with this number.
-fn start(line: &[u8], number: usize) -> usize {
+// The start of the item with this number, where `separator` stands between items.
+fn start(list: &[u8], separator: u8, number: usize) -> usize {
     let mut at: usize = 0;
     let mut i: usize = 0;
     while i < number {
-        at = after(find(line, at, b' '), line.len());
+        at = after(find(list, at, separator), list.len());
         i += 1;
     }
     at
 }
 
 // The next offset, up to a limit.
-pub(crate) fn after(at: usize, limit: usize) -> usize
+pub fn after(at: usize, limit: usize) -> usize
     ensures { λ r. ⌜ limit - r ≤ limit - at - 1 ⌝ }
 {
     if at < limit { at + 1 } else { limit }
 }
 
-// The word with this number, the first being 0; none where the line has no such word.
-pub(crate) fn word<'a>(line: &'a [u8], number: usize) -> &'a [u8] {
-    let from = start(line, number);
-    part(line, from, find(line, from, b' '))
+// The item with this number, the first being 0; none where the list has no such item.
+pub fn item<'a>(list: &'a [u8], separator: u8, number: usize) -> &'a [u8] {
+    let from = start(list, separator, number);
+    part(list, from, find(list, from, separator))
+}
+
+// A line's word.
+pub fn word<'a>(line: &'a [u8], number: usize) -> &'a [u8] {
+    item(line, b' ', number)
 }
 
 // Whether the word with this number ends the line.
-pub(crate) fn last(line: &[u8], number: usize) -> bool {
-    find(line, start(line, number), b' ') == line.len()
+pub fn last(line: &[u8], number: usize) -> bool {
+    find(line, start(line, b' ', number), b' ') == line.len()
+}
+
+// How many words a list may have for `position`.
+const MOST_WORDS: usize = 16;
+
+// Which word of a list this is; past the list's end where it is none.
+pub fn position(wanted: &[u8], list: &[u8]) -> usize {
+    let mut i: usize = 0;
+    while i < MOST_WORDS {
+        if same(wanted, word(list, i)) {
+            return i;
+        }
+        i += 1;
+    }
+    i
 }
 
 // Whether two texts are the same.
-pub(crate) fn same(a: &[u8], b: &[u8]) -> bool {
+pub fn same(a: &[u8], b: &[u8]) -> bool {
     if a.len() != b.len() {
         return false;
     }
@@ -72,7 +92,7 @@ pub(crate) fn same(a: &[u8], b: &[u8]) -> bool {
 }
 
 // A word that is a number, or isn't.
-pub(crate) enum Number {
+pub enum Number {
     Value(usize),
     Bad,
 }
@@ -96,7 +116,7 @@ fn longer(value: Number, digit: u8) -> Number {
 }
 
 // 1 to 20 decimal digits, below 2^64.
-pub(crate) fn value(word: &[u8]) -> Number {
+pub fn value(word: &[u8]) -> Number {
     if word.len() == 0 {
         return Number::Bad;
     }
@@ -113,7 +133,7 @@ pub(crate) fn value(word: &[u8]) -> Number {
 }
 
 // A number up to a limit.
-pub(crate) fn limited(word: &[u8], limit: usize) -> Number {
+pub fn limited(word: &[u8], limit: usize) -> Number {
     let Number::Value(n) = value(word) else {
         return Number::Bad;
     };
@@ -152,7 +172,7 @@ fn pair(high: u8, low: u8) -> Number {
 }
 
 // BYTES go to the front of `out`; their count, or that the word is none or has too many.
-pub(crate) fn bytes(word: &[u8], out: &mut [u8]) -> Number {
+pub fn bytes(word: &[u8], out: &mut [u8]) -> Number {
     if same(word, b"-") {
         return Number::Value(0);
     }
@@ -177,14 +197,14 @@ pub(crate) fn bytes(word: &[u8], out: &mut [u8]) -> Number {
 }
 
 // The first bytes of a buffer, as many as are asked for and there are.
-pub(crate) fn front<'a>(buffer: &'a mut [u8], n: usize) -> &'a mut [u8] {
+pub fn front<'a>(buffer: &'a mut [u8], n: usize) -> &'a mut [u8] {
     if n < buffer.len() {
         return &mut buffer[..n];
     }
     buffer
 }
 
-pub(crate) fn front_words<'a>(buffer: &'a mut [u32], n: usize) -> &'a mut [u32] {
+pub fn front_words<'a>(buffer: &'a mut [u32], n: usize) -> &'a mut [u32] {
     if n < buffer.len() {
         return &mut buffer[..n];
     }

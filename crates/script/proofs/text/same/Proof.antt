@@ -1,10 +1,10 @@
--- `replay::text::same` is safe and ends.
+-- `script::text::same` is safe and ends.
 use Prim.Native.Nat.{_+_, _*_, _-_, _/_, _≤_, _<_}
 use native.Mathlib.Omega.{arith}
 use lib.ListN.{length}
 use borrow.Author.Needs.{needs}
-use Rattle.replay.proofs.text.same.Statement.{statement}
-use Rattle.replay.proofs.text.same.Tie as tie
+use Rattle.script.proofs.text.same.Statement.{statement}
+use Rattle.script.proofs.text.same.Tie as tie
 
 abbrev Inv-loop : tie.InvT-loop
 Inv-loop a b i₀ i = Unit {0}

@@ -1,16 +1,16 @@
--- `replay::text::start` is safe and ends.
+-- `script::text::start` is safe and ends.
 use Prim.Native.Nat.{_+_, _*_, _-_, _/_, _≤_, _<_}
 use native.Mathlib.Omega.{arith}
 use lib.ListN.{length}
 use borrow.Author.Needs.{needs}
-use Rattle.replay.proofs.text.start.Statement.{statement}
-use Rattle.replay.proofs.text.start.Tie as tie
+use Rattle.script.proofs.text.start.Statement.{statement}
+use Rattle.script.proofs.text.start.Tie as tie
 
 abbrev Inv-loop : tie.InvT-loop
-Inv-loop line number at₀ i₀ at i = Unit {0}
+Inv-loop list separator number at₀ i₀ at i = Unit {0}
 
 abbrev μ-loop : tie.MeasureT-loop
-μ-loop line number at₀ i₀ at i = number - i
+μ-loop list separator number at₀ i₀ at i = number - i
 
 loop-holds : tie.Need-loop-holds Inv-loop μ-loop
 loop-holds c = tt

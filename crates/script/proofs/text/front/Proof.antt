@@ -1,10 +1,10 @@
--- `replay::text::front` is safe.
+-- `script::text::front` is safe.
 use mathlib.Core.Path.{sym}
 use native.Mathlib.Omega.{arith}
 use lib.Seq.{length-take-le}
 use borrow.Author.Needs.{needs}
-use Rattle.replay.proofs.text.front.Statement.{statement}
-use Rattle.replay.proofs.text.front.Tie as tie
+use Rattle.script.proofs.text.front.Statement.{statement}
+use Rattle.script.proofs.text.front.Tie as tie
 
 slice-aggregate-result : tie.Need-slice-aggregate-result
 slice-aggregate-result c = sym (length-take-le (c .before .before .args .n) (c .before .before .args .buffer .now) (omega arith))

@@ -1,10 +1,10 @@
--- `replay::text::value` is safe and ends.
+-- `script::text::value` is safe and ends.
 use Prim.Native.Nat.{_+_, _*_, _-_, _/_, _≤_, _<_}
 use native.Mathlib.Omega.{arith}
 use lib.ListN.{length}
 use borrow.Author.Needs.{needs}
-use Rattle.replay.proofs.text.value.Statement.{statement}
-use Rattle.replay.proofs.text.value.Tie as tie
+use Rattle.script.proofs.text.value.Statement.{statement}
+use Rattle.script.proofs.text.value.Tie as tie
 
 abbrev Inv-loop : tie.InvT-loop
 Inv-loop word value₀ i₀ value i = Unit {0}

@@ -1,0 +1,88 @@
+// The lines that are no call of the engine: the getters, a survey, the volume's bytes and another state.
+use crate::world;
+use crate::world::World;
+use bench::flash::Operation;
+use log::get;
+use log::get::Capacity;
+use log::state::Log;
+use log::state::State;
+use log::survey::Surveyed;
+use page::id::EntryID;
+use script::parse::Fault;
+use script::text;
+use script::trace;
+
+// The survey's answer and count.
+fn survey_answer(answer: Surveyed) -> usize {
+    match answer {
+        Surveyed::Count(count) => 0,
+        Surveyed::Size => 7,
+        Surveyed::Shape => 20,
+    }
+}
+
+fn survey_count(answer: Surveyed) -> usize {
+    match answer {
+        Surveyed::Count(count) => count,
+        Surveyed::Size => 0,
+        Surveyed::Shape => 0,
+    }
+}
+
+fn survey_into(log: Log, volume: &[u8], ids: &mut [u32], out: &mut [u8]) {
+    let geometry = log.geometry;
+    let answer = log::survey::survey(geometry, volume, ids);
+    let start = trace::pair(out, b"survey", survey_answer(answer), survey_count(answer));
+    let stop = trace::words(out, start, ids);
+    trace::end(out, stop);
+}
+
+pub(crate) fn survey(world: World, count: usize, volume: &[u8], out: &mut [u8]) -> World {
+    let mut ids = [4294967295u32; 4096];
+    survey_into(world.log, volume, text::front_words(&mut ids, count), out);
+    world
+}
+
+pub(crate) fn getters(world: World, out: &mut [u8]) -> World {
+    let log = world.log;
+    let size = match get::get_size(log) {
+        Capacity::Bytes(bytes) => bytes,
+        Capacity::Shape => 0,
+    };
+    let start = trace::pair(out, b"get", get::log_start(log).0, get::log_end(log).0);
+    let middle = trace::number(out, start, get::next_read_entry_id(log).0);
+    let stop = trace::number(out, middle, size);
+    trace::end(out, stop);
+    world
+}
+
+pub(crate) fn show_volume(world: World, volume: &[u8], out: &mut [u8]) -> World {
+    let start = trace::put(out, 0, b"volume");
+    let stop = trace::bytes(out, start, volume);
+    trace::end(out, stop);
+    world
+}
+
+// Another state in place of the log's.
+pub(crate) fn put(
+    world: World,
+    state: State,
+    oldest: usize,
+    read: usize,
+    append: usize,
+    length: usize,
+) -> World {
+    if !world.power {
+        return world::faulty(world, Fault::Place);
+    }
+    let log = world.log;
+    let next = call::outcome::with(
+        log,
+        state,
+        EntryID(oldest),
+        EntryID(read),
+        EntryID(append),
+        length,
+    );
+    world::after(world, next, Operation::Nothing, true)
+}

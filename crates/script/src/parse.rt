@@ -1,0 +1,229 @@
+// A line of the script, read as a call.
+use crate::text;
+use crate::text::Number;
+use bench::flash::Erasure;
+use bench::flash::Written;
+use call::outcome::Driver;
+use log::state::State;
+
+// What is wrong with a line.
+pub enum Fault {
+    Nothing,
+    Unknown,
+    Place,
+    Words,
+    Number,
+    Bytes,
+    Word,
+    Volume,
+    Long,
+}
+
+// The calls that write, read and erase, with their arguments. The client's buffer stands beside them; its length is the second number of append and read.
+pub enum WriteCall {
+    Append(usize, usize, Driver),
+    Sync(Driver),
+    Complete(bool, Written),
+}
+
+pub enum ReadCall {
+    Read(usize, usize),
+    Seek(usize),
+    Deferred,
+}
+
+pub enum EraseCall {
+    Erase(Driver),
+    Complete(bool, Erasure, Driver),
+}
+
+// A line after the first three.
+pub enum Line {
+    Write(WriteCall),
+    Read(ReadCall),
+    Erase(EraseCall),
+    Get,
+    Survey(usize),
+    Volume,
+    Put(State, usize, usize, usize, usize),
+    Bad(Fault),
+}
+
+// The driver's word.
+pub enum Said {
+    Word(Driver),
+    Bad,
+}
+
+fn driver(word: &[u8]) -> Said {
+    let n = text::position(word, b"ok busy fail");
+    match n {
+        0 => Said::Word(Driver::OK),
+        1 => Said::Word(Driver::BUSY),
+        2 => Said::Word(Driver::FAIL),
+        _ => Said::Bad,
+    }
+}
+
+fn append(line: &[u8], client: &mut [u8]) -> Line {
+    let Number::Value(length) = text::value(text::word(line, 1)) else {
+        return Line::Bad(Fault::Number);
+    };
+    let Number::Value(room) = text::bytes(text::word(line, 2), client) else {
+        return Line::Bad(Fault::Bytes);
+    };
+    let Said::Word(word) = driver(text::word(line, 3)) else {
+        return Line::Bad(Fault::Word);
+    };
+    Line::Write(WriteCall::Append(length, room, word))
+}
+
+fn read(line: &[u8], client: &mut [u8]) -> Line {
+    let Number::Value(length) = text::value(text::word(line, 1)) else {
+        return Line::Bad(Fault::Number);
+    };
+    let Number::Value(room) = text::bytes(text::word(line, 2), client) else {
+        return Line::Bad(Fault::Bytes);
+    };
+    Line::Read(ReadCall::Read(length, room))
+}
+
+fn seek(line: &[u8]) -> Line {
+    let Number::Value(id) = text::value(text::word(line, 1)) else {
+        return Line::Bad(Fault::Number);
+    };
+    Line::Read(ReadCall::Seek(id))
+}
+
+fn survey(line: &[u8]) -> Line {
+    let Number::Value(count) = text::limited(text::word(line, 1), 4096) else {
+        return Line::Bad(Fault::Number);
+    };
+    Line::Survey(count)
+}
+
+fn sync(line: &[u8]) -> Line {
+    let Said::Word(word) = driver(text::word(line, 1)) else {
+        return Line::Bad(Fault::Word);
+    };
+    Line::Write(WriteCall::Sync(word))
+}
+
+fn erase(line: &[u8]) -> Line {
+    let Said::Word(word) = driver(text::word(line, 1)) else {
+        return Line::Bad(Fault::Word);
+    };
+    Line::Erase(EraseCall::Erase(word))
+}
+
+// Two words, each of a list, as one number: the first's place times 4, and the second's. 16 where one is in no list.
+fn both(first: usize, second: usize) -> usize {
+    if 3 < first {
+        return 16;
+    }
+    if 3 < second {
+        return 16;
+    }
+    first * 4 + second
+}
+
+// After `ok` a write leaves the new page; after `fail` one of three.
+fn write_complete(line: &[u8]) -> Line {
+    let result = text::position(text::word(line, 1), b"ok fail");
+    let left = text::position(text::word(line, 2), b"old blank new");
+    let n = both(result, left);
+    match n {
+        2 => Line::Write(WriteCall::Complete(true, Written::New)),
+        4 => Line::Write(WriteCall::Complete(false, Written::Old)),
+        5 => Line::Write(WriteCall::Complete(false, Written::Blank)),
+        6 => Line::Write(WriteCall::Complete(false, Written::New)),
+        _ => Line::Bad(Fault::Word),
+    }
+}
+
+// After `ok` an erase leaves 0xFF everywhere; after `fail` one of two.
+fn erase_complete(line: &[u8]) -> Line {
+    let Said::Word(word) = driver(text::word(line, 3)) else {
+        return Line::Bad(Fault::Word);
+    };
+    let result = text::position(text::word(line, 1), b"ok fail");
+    let left = text::position(text::word(line, 2), b"old blank");
+    let n = both(result, left);
+    match n {
+        1 => Line::Erase(EraseCall::Complete(true, Erasure::Blank, word)),
+        4 => Line::Erase(EraseCall::Complete(false, Erasure::Old, word)),
+        5 => Line::Erase(EraseCall::Complete(false, Erasure::Blank, word)),
+        _ => Line::Bad(Fault::Word),
+    }
+}
+
+// The state with a name.
+pub enum Named {
+    State(State),
+    Bad,
+}
+
+fn state_named(word: &[u8]) -> Named {
+    let n = text::position(word, b"idle read seek append sync erase");
+    match n {
+        0 => Named::State(State::Idle),
+        1 => Named::State(State::Read),
+        2 => Named::State(State::Seek),
+        3 => Named::State(State::Append),
+        4 => Named::State(State::Sync),
+        5 => Named::State(State::Erase),
+        _ => Named::Bad,
+    }
+}
+
+fn put(line: &[u8]) -> Line {
+    let Named::State(state) = state_named(text::word(line, 1)) else {
+        return Line::Bad(Fault::Word);
+    };
+    let Number::Value(o) = text::value(text::word(line, 2)) else {
+        return Line::Bad(Fault::Number);
+    };
+    let Number::Value(r) = text::value(text::word(line, 3)) else {
+        return Line::Bad(Fault::Number);
+    };
+    let Number::Value(a) = text::value(text::word(line, 4)) else {
+        return Line::Bad(Fault::Number);
+    };
+    let Number::Value(kept) = text::value(text::word(line, 5)) else {
+        return Line::Bad(Fault::Number);
+    };
+    Line::Put(state, o, r, a, kept)
+}
+
+// A line with no more than so many words after its name.
+fn within(line: &[u8], words: usize, parsed: Line) -> Line {
+    if text::last(line, words) {
+        return parsed;
+    }
+    Line::Bad(Fault::Words)
+}
+
+// A line after the first three.
+pub fn parse_line(line: &[u8], client: &mut [u8]) -> Line {
+    let n = text::position(
+        text::word(line, 0),
+        b"append read seek survey sync erase write_complete erase_complete state deferred get volume restart sizes",
+    );
+    match n {
+        0 => within(line, 3, append(line, client)),
+        1 => within(line, 2, read(line, client)),
+        2 => within(line, 1, seek(line)),
+        3 => within(line, 1, survey(line)),
+        4 => within(line, 1, sync(line)),
+        5 => within(line, 1, erase(line)),
+        6 => within(line, 2, write_complete(line)),
+        7 => within(line, 3, erase_complete(line)),
+        8 => within(line, 5, put(line)),
+        9 => within(line, 0, Line::Read(ReadCall::Deferred)),
+        10 => within(line, 0, Line::Get),
+        11 => within(line, 0, Line::Volume),
+        12 => Line::Bad(Fault::Place),
+        13 => Line::Bad(Fault::Place),
+        _ => Line::Bad(Fault::Unknown),
+    }
+}
