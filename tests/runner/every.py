@@ -7,20 +7,21 @@ from .trace import parse
 DEPTH = 5
 PAGE_SIZE = 16
 
-# The alphabet. A seek's letter stands for the ID that it names at that moment; a letter that the domain doesn't allow then is left out.
+# The alphabet. Left out at a place: what the domain doesn't allow there, a deferred call that isn't due, a refusal where the driver isn't asked.
 LETTERS = [
     "append 1 a1 ok",
     "append 8 b1b2b3b4b5b6b7b8 ok",
     "append 8 c1c2c3c4c5c6c7c8 busy",
     "sync ok",
     "read 8 0000000000000000",
-    "seek start",
+    "seek start",  # stands for O at that moment
     "erase ok",
     "deferred",
     "write_complete ok new",
     "write_complete fail blank",
     "erase_complete ok blank ok",
 ]
+NAMES = {letter.split(" ")[0] for letter in LETTERS}
 
 
 def full_page(number):
@@ -68,12 +69,10 @@ def longer(oracle, lines, trace, state, letters):
     if len(lines) - 3 == DEPTH:
         yield lines + ["volume"], oracle.ask("\n".join(lines) + "\nvolume\n", len(trace) + 1)
         return
-    tried = set()
     for letter in letters:
-        line = spelled(letter, state)
-        if line in tried or not state.allows(line) or (line == "deferred" and not state.deferred):
+        line = f"seek {state.O}" if letter == "seek start" else letter
+        if not state.allows(line) or (line == "deferred" and not state.deferred):
             continue
-        tried.add(line)
         more = lines + [line]
         answers = oracle.ask("\n".join(more) + "\n", len(trace) + 1)
         step = parse(answers[-1])
@@ -82,11 +81,3 @@ def longer(oracle, lines, trace, state, letters):
         after = state.copy()
         after.update(line, step)
         yield from longer(oracle, more, answers, after, LETTERS)
-
-
-def spelled(letter, state):
-    if letter == "seek start":
-        return f"seek {state.O}"
-    if letter == "seek end":
-        return f"seek {state.A}"
-    return letter

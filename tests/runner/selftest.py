@@ -57,6 +57,7 @@ def check_programs(failures):
         for text, limit, lines, ended in [
             ("cat", 10, ["a", "b"], None),
             ("cat; exit 3", 10, ["a", "b"], "exit status 3"),
+            ("printf 'a\\nb'", 10, ["a", "b (no line end)"], None),
             ("echo x; kill -9 $$", 10, ["x"], "killed by signal 9"),
             ("exec sleep 60", 0.2, [], "no end within 0.2 s"),
         ]:
@@ -122,7 +123,7 @@ def check_wants(failures):
         path = pathlib.Path(folder, "case.script")
         path.write_text("sizes\nvolume\nrestart\n# want: A 4, state idle\nread\n# want: answer 0, A 41\n# rust: panic\n")
         kept = Kept(path)
-        trace = [f"restart 0 - - ? 4 4 4 ? - ?", ORACLE]
+        trace = ["restart 0 - - ? 4 4 4 ? - ?", ORACLE]
         check(failures, "wants that are met", unmet(kept.wants, kept.lines, trace, None) == [])
         check(failures, "wants that are not met", len(unmet(kept.wants, kept.lines, trace[:1] * 2, None)) == 1)
         check(failures, "wants on a trace too short", len(unmet(kept.wants, kept.lines, trace[:1], None)) == 2)

@@ -34,10 +34,8 @@ class Program:
         ended = wait(process, self.limit)
         os.lseek(self.output, 0, os.SEEK_SET)
         size = os.fstat(self.output).st_size
-        lines = read_all(self.output, size).decode("ascii", "backslashreplace").split("\n")
-        if lines[-1] == "":
-            lines.pop()
-        return lines, ended
+        *lines, last = read_all(self.output, size).decode("ascii", "backslashreplace").split("\n")
+        return lines + [last + " (no line end)"] * (last != ""), ended
 
 
 def refill(file, content):

@@ -52,13 +52,12 @@ def lap(rng, page_size, count, oldest, pages):
 def page(rng, page_size, first_id):
     """A page with entries of random lengths, full or padded."""
     content = first_id.to_bytes(4, "little")
-    room = page_size - 8
     stop_early = rng.random() < 0.5
     while len(content) + 4 < page_size:
         fits = page_size - len(content) - 4
-        length = rng.choice([fits, rng.randint(1, fits), rng.randint(1, min(fits, 8))])
-        if length > room or (stop_early and rng.random() < 0.3):
+        if stop_early and rng.random() < 0.3:
             break
+        length = rng.choice([fits, rng.randint(1, fits), rng.randint(1, min(fits, 8))] + [255, 256] * (fits >= 256))
         content += length.to_bytes(4, "little") + data(rng, length)
     return content + b"\xff" * (page_size - len(content))
 
