@@ -25,7 +25,9 @@ impl Sizes {
             return bad("for the Rust the page size is a power of two from 16 to 4096");
         }
         if !(1..=4096).contains(&self.count) || self.first > 16777215 {
-            return bad("for the Rust the page count is 1 to 4096, and the first page at most 16777215");
+            return bad(
+                "for the Rust the page count is 1 to 4096, and the first page at most 16777215",
+            );
         }
         Ok(self)
     }
@@ -68,7 +70,12 @@ pub struct Bench {
 
 impl Bench {
     /// With the power off, and a page buffer of zeros.
-    pub fn new(sizes: Sizes, volume: &[u8], driver: &'static Driver, clients: &'static Clients) -> Bench {
+    pub fn new(
+        sizes: Sizes,
+        volume: &[u8],
+        driver: &'static Driver,
+        clients: &'static Clients,
+    ) -> Bench {
         let mut lent = Lent::default();
         let page = lent.bytes(vec![0; sizes.page_size]);
         Bench {
@@ -93,9 +100,16 @@ impl Bench {
         page: Option<Vec<u8>>,
         hold: Option<Vec<u8>>,
     ) -> Result<(), Bad> {
-        let fits = |buffer: &Option<Vec<u8>>| buffer.as_ref().is_none_or(|bytes| bytes.len() == self.sizes.page_size);
+        let fits = |buffer: &Option<Vec<u8>>| {
+            buffer
+                .as_ref()
+                .is_none_or(|bytes| bytes.len() == self.sizes.page_size)
+        };
         if !fits(&page) || !fits(&hold) {
-            return bad(format!("for the Rust these buffers have {} bytes", self.sizes.page_size));
+            return bad(format!(
+                "for the Rust these buffers have {} bytes",
+                self.sizes.page_size
+            ));
         }
         let page = self.lent.bytes(page.unwrap_or_else(|| bytes_of(self.page)));
         self.page = page;
@@ -138,7 +152,10 @@ impl Bench {
         let Some(log) = self.log.take() else {
             return not_delivered(out, name);
         };
-        if matches!(call, Call::EraseComplete { .. }) && self.erasing && !matches!(self.under_way, UnderWay::Erase(_)) {
+        if matches!(call, Call::EraseComplete { .. })
+            && self.erasing
+            && !matches!(self.under_way, UnderWay::Erase(_))
+        {
             self.log = Some(log);
             return not_delivered(out, name);
         }
@@ -163,12 +180,18 @@ impl Bench {
             Call::Append { length, data, word } => {
                 self.driver.word.set(word);
                 let data = self.lent.bytes(data);
-                number(log.append(unsafe { &mut *data }, length).map_err(|(code, _)| code))
+                number(
+                    log.append(unsafe { &mut *data }, length)
+                        .map_err(|(code, _)| code),
+                )
             }
             Call::Read { length, buffer } => {
                 let buffer = self.lent.bytes(buffer);
                 self.buffer = buffer;
-                number(log.read(unsafe { &mut *buffer }, length).map_err(|(code, _)| code))
+                number(
+                    log.read(unsafe { &mut *buffer }, length)
+                        .map_err(|(code, _)| code),
+                )
             }
             Call::Seek(id) => number(log.seek(id)),
             Call::Sync(word) => {
@@ -238,16 +261,28 @@ impl Bench {
         if let Some(Request::Erase(_)) = request {
             self.erasing = true;
         }
-        if self.clients.reports.borrow().iter().any(|report| report.starts_with("erase_done")) {
+        if self
+            .clients
+            .reports
+            .borrow()
+            .iter()
+            .any(|report| report.starts_with("erase_done"))
+        {
             self.erasing = false;
         }
         if self.driver.word.get() == Word::Ok {
             match request {
                 Some(Request::Write(page_number)) => {
-                    let page = self.driver.page.take().expect("an accepted write has its page");
+                    let page = self
+                        .driver
+                        .page
+                        .take()
+                        .expect("an accepted write has its page");
                     self.under_way = UnderWay::Write(self.slot(page_number), page);
                 }
-                Some(Request::Erase(page_number)) => self.under_way = UnderWay::Erase(self.slot(page_number)),
+                Some(Request::Erase(page_number)) => {
+                    self.under_way = UnderWay::Erase(self.slot(page_number))
+                }
                 None => (),
             }
         }
@@ -272,8 +307,14 @@ impl Bench {
         }
         match request {
             None => put(out, format_args!(" -")),
-            Some(Request::Write(page)) => put(out, format_args!(" write {}", self.sizes.first + self.slot(page))),
-            Some(Request::Erase(page)) => put(out, format_args!(" erase {}", self.sizes.first + self.slot(page))),
+            Some(Request::Write(page)) => put(
+                out,
+                format_args!(" write {}", self.sizes.first + self.slot(page)),
+            ),
+            Some(Request::Erase(page)) => put(
+                out,
+                format_args!(" erase {}", self.sizes.first + self.slot(page)),
+            ),
         }
         let (oldest, read, append) = (log.log_start(), log.next_read_entry_id(), log.log_end());
         put(out, format_args!(" ? {oldest} {read} {append} ? "));
@@ -286,7 +327,10 @@ impl Bench {
             None => not_delivered(out, "get"),
             Some(log) => {
                 let (start, end, next) = (log.log_start(), log.log_end(), log.next_read_entry_id());
-                put(out, format_args!("get {start} {end} {next} {}\n", log.get_size()));
+                put(
+                    out,
+                    format_args!("get {start} {end} {next} {}\n", log.get_size()),
+                );
             }
         }
     }
@@ -316,7 +360,9 @@ fn put(out: &mut Vec<u8>, text: std::fmt::Arguments) {
 /// A copy of bytes that may be lent to the log at the moment.
 fn bytes_of(bytes: *const [u8]) -> Vec<u8> {
     let start: *const u8 = bytes.cast();
-    (0..bytes.len()).map(|i| unsafe { start.add(i).read_volatile() }).collect()
+    (0..bytes.len())
+        .map(|i| unsafe { start.add(i).read_volatile() })
+        .collect()
 }
 
 fn put_bytes(out: &mut Vec<u8>, bytes: *const [u8]) {

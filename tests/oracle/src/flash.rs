@@ -32,7 +32,11 @@ pub struct Driver {
 
 impl Driver {
     pub fn new() -> Driver {
-        Driver { word: Cell::new(Word::Ok), request: Cell::new(None), page: Cell::new(None) }
+        Driver {
+            word: Cell::new(Word::Ok),
+            request: Cell::new(None),
+            page: Cell::new(None),
+        }
     }
 
     fn start(&self, request: Request) -> Result<(), ErrorCode> {
@@ -48,7 +52,11 @@ impl Driver {
 impl Flash for Driver {
     type Page = Page;
 
-    fn write_page(&self, page_number: usize, page: &'static mut Page) -> Result<(), (ErrorCode, &'static mut Page)> {
+    fn write_page(
+        &self,
+        page_number: usize,
+        page: &'static mut Page,
+    ) -> Result<(), (ErrorCode, &'static mut Page)> {
         match self.start(Request::Write(page_number)) {
             Ok(()) => {
                 self.page.set(Some(page));
@@ -94,8 +102,18 @@ impl LogReadClient for Clients {
 }
 
 impl LogWriteClient for Clients {
-    fn append_done(&self, _buffer: &'static mut [u8], length: usize, lost: bool, result: Result<(), ErrorCode>) {
-        self.report(format!("append_done {length} {} {}", usize::from(lost), number(result)));
+    fn append_done(
+        &self,
+        _buffer: &'static mut [u8],
+        length: usize,
+        lost: bool,
+        result: Result<(), ErrorCode>,
+    ) {
+        self.report(format!(
+            "append_done {length} {} {}",
+            usize::from(lost),
+            number(result)
+        ));
     }
 
     fn sync_done(&self, result: Result<(), ErrorCode>) {

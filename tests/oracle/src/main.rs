@@ -7,6 +7,7 @@
 mod bench;
 mod flash;
 mod lent;
+#[rustfmt::skip] // not ours to format
 #[path = "../../../target/oracle/log.rs"]
 mod log;
 mod memory;
@@ -48,14 +49,36 @@ impl Oracle {
             self.stage = Stage::Start;
         }
         self.stage = match (std::mem::replace(&mut self.stage, Stage::Between), line) {
-            (Stage::Start, Line::Sizes { page_size, count, first, circular }) => {
-                Stage::Sized(Sizes { page_size, count, first, circular }.check()?)
-            }
+            (
+                Stage::Start,
+                Line::Sizes {
+                    page_size,
+                    count,
+                    first,
+                    circular,
+                },
+            ) => Stage::Sized(
+                Sizes {
+                    page_size,
+                    count,
+                    first,
+                    circular,
+                }
+                .check()?,
+            ),
             (Stage::Sized(sizes), Line::Fill(fill)) => {
                 let volume = sizes.fill(fill)?;
                 Stage::Filled(Bench::new(sizes, &volume, self.driver, self.clients))
             }
-            (Stage::Filled(mut bench), Line::Restart { read, append, page, hold }) => {
+            (
+                Stage::Filled(mut bench),
+                Line::Restart {
+                    read,
+                    append,
+                    page,
+                    hold,
+                },
+            ) => {
                 bench.restart(out, read, append, page, hold)?;
                 Stage::Running(bench)
             }

@@ -12,7 +12,14 @@ type FileLength = i64;
 unsafe extern "C" {
     fn memfd_create(name: *const c_char, flags: c_uint) -> c_int;
     fn ftruncate(file: c_int, length: FileLength) -> c_int;
-    fn mmap(at: *mut c_void, length: usize, protection: c_int, flags: c_int, file: c_int, offset: FileLength) -> *mut c_void;
+    fn mmap(
+        at: *mut c_void,
+        length: usize,
+        protection: c_int,
+        flags: c_int,
+        file: c_int,
+        offset: FileLength,
+    ) -> *mut c_void;
     fn munmap(at: *mut c_void, length: usize) -> c_int;
     fn close(file: c_int) -> c_int;
 }
@@ -40,8 +47,15 @@ impl Volume {
         let volume = unsafe {
             let file = memfd_create(c"volume".as_ptr(), 0);
             assert!(file >= 0, "no memory file");
-            assert!(ftruncate(file, length as FileLength) == 0, "no room in the memory file");
-            let volume = Volume { read: map(file, PROT_READ), write: map(file, PROT_READ | PROT_WRITE), length };
+            assert!(
+                ftruncate(file, length as FileLength) == 0,
+                "no room in the memory file"
+            );
+            let volume = Volume {
+                read: map(file, PROT_READ),
+                write: map(file, PROT_READ | PROT_WRITE),
+                length,
+            };
             close(file);
             volume
         };
@@ -73,7 +87,9 @@ impl Volume {
 
     pub fn bytes(&self) -> Vec<u8> {
         let from: *const u8 = self.write.cast();
-        (0..self.length).map(|i| unsafe { from.add(i).read_volatile() }).collect()
+        (0..self.length)
+            .map(|i| unsafe { from.add(i).read_volatile() })
+            .collect()
     }
 }
 

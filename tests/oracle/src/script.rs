@@ -27,24 +27,48 @@ pub enum Fill {
 pub enum Line {
     /// An empty line or a comment.
     Nothing,
-    Sizes { page_size: usize, count: usize, first: usize, circular: bool },
+    Sizes {
+        page_size: usize,
+        count: usize,
+        first: usize,
+        circular: bool,
+    },
     Fill(Fill),
     /// No bytes for a buffer: it stays as it is.
-    Restart { read: bool, append: bool, page: Option<Vec<u8>>, hold: Option<Vec<u8>> },
+    Restart {
+        read: bool,
+        append: bool,
+        page: Option<Vec<u8>>,
+        hold: Option<Vec<u8>>,
+    },
     Call(Call),
     Get,
     Volume,
 }
 
 pub enum Call {
-    Append { length: usize, data: Vec<u8>, word: Word },
-    Read { length: usize, buffer: Vec<u8> },
+    Append {
+        length: usize,
+        data: Vec<u8>,
+        word: Word,
+    },
+    Read {
+        length: usize,
+        buffer: Vec<u8>,
+    },
     Seek(usize),
     Sync(Word),
     Erase(Word),
     Deferred,
-    WriteComplete { good: bool, left: Left },
-    EraseComplete { good: bool, left: Left, word: Word },
+    WriteComplete {
+        good: bool,
+        left: Left,
+    },
+    EraseComplete {
+        good: bool,
+        left: Left,
+        word: Word,
+    },
 }
 
 impl Call {
@@ -109,7 +133,10 @@ fn bytes(word: &str, most: usize) -> Result<Vec<u8>, Bad> {
         return bad(format!("more than {most} bytes"));
     }
     let pairs = word.as_bytes().chunks(2);
-    match pairs.map(|pair| Some(digit(pair[0])? * 16 + digit(pair[1])?)).collect() {
+    match pairs
+        .map(|pair| Some(digit(pair[0])? * 16 + digit(pair[1])?))
+        .collect()
+    {
         Some(bytes) => Ok(bytes),
         None => bad("bytes are lower-case hexadecimal digits"),
     }
@@ -120,7 +147,11 @@ fn buffer(word: &str) -> Result<Vec<u8>, Bad> {
 }
 
 fn kept_or_buffer(word: &str) -> Result<Option<Vec<u8>>, Bad> {
-    if word == "=" { Ok(None) } else { buffer(word).map(Some) }
+    if word == "=" {
+        Ok(None)
+    } else {
+        buffer(word).map(Some)
+    }
 }
 
 fn flag(word: &str) -> Result<bool, Bad> {
@@ -206,21 +237,33 @@ pub fn parse(line: &str) -> Result<Line, Bad> {
         }
         ["get"] => return Ok(Line::Get),
         ["volume"] => return Ok(Line::Volume),
-        ["append", length, data, word] => {
-            Call::Append { length: number(length)?, data: buffer(data)?, word: driver(word)? }
-        }
-        ["read", length, lent] => Call::Read { length: number(length)?, buffer: buffer(lent)? },
+        ["append", length, data, word] => Call::Append {
+            length: number(length)?,
+            data: buffer(data)?,
+            word: driver(word)?,
+        },
+        ["read", length, lent] => Call::Read {
+            length: number(length)?,
+            buffer: buffer(lent)?,
+        },
         ["seek", id] => Call::Seek(number(id)?),
         ["sync", word] => Call::Sync(driver(word)?),
         ["erase", word] => Call::Erase(driver(word)?),
         ["deferred"] => Call::Deferred,
         ["write_complete", how, left] => {
             let good = good(how)?;
-            Call::WriteComplete { good, left: left_by_write(good, left)? }
+            Call::WriteComplete {
+                good,
+                left: left_by_write(good, left)?,
+            }
         }
         ["erase_complete", how, left, word] => {
             let good = good(how)?;
-            Call::EraseComplete { good, left: left_by_erase(good, left)?, word: driver(word)? }
+            Call::EraseComplete {
+                good,
+                left: left_by_erase(good, left)?,
+                word: driver(word)?,
+            }
         }
         ["survey" | "state", ..] => return bad(format!("the Rust has no {}", words[0])),
         _ => return bad(format!("not a line of a script: '{}'", words[0])),

@@ -85,12 +85,23 @@ pub mod hil {
         type Refused = (ErrorCode, &'static mut [u8]);
 
         pub trait LogReadClient {
-            fn read_done(&self, buffer: &'static mut [u8], length: usize, result: Result<(), ErrorCode>);
+            fn read_done(
+                &self,
+                buffer: &'static mut [u8],
+                length: usize,
+                result: Result<(), ErrorCode>,
+            );
             fn seek_done(&self, result: Result<(), ErrorCode>);
         }
 
         pub trait LogWriteClient {
-            fn append_done(&self, buffer: &'static mut [u8], length: usize, lost: bool, result: Result<(), ErrorCode>);
+            fn append_done(
+                &self,
+                buffer: &'static mut [u8],
+                length: usize,
+                lost: bool,
+                result: Result<(), ErrorCode>,
+            );
             fn sync_done(&self, result: Result<(), ErrorCode>);
             fn erase_done(&self, result: Result<(), ErrorCode>);
         }
@@ -127,7 +138,9 @@ pub mod utilities {
 
         impl<T: Copy> OptionalCell<T> {
             pub fn empty() -> Self {
-                OptionalCell { value: Cell::new(None) }
+                OptionalCell {
+                    value: Cell::new(None),
+                }
             }
 
             pub fn set(&self, value: T) {
@@ -150,11 +163,15 @@ pub mod utilities {
 
         impl<'a, T: ?Sized> TakeCell<'a, T> {
             pub fn empty() -> Self {
-                TakeCell { value: Cell::new(None) }
+                TakeCell {
+                    value: Cell::new(None),
+                }
             }
 
             pub fn new(value: &'a mut T) -> Self {
-                TakeCell { value: Cell::new(Some(value)) }
+                TakeCell {
+                    value: Cell::new(Some(value)),
+                }
             }
 
             pub fn take(&self) -> Option<&'a mut T> {
