@@ -1,0 +1,168 @@
+"""Document 01's domain of the differential runs: which volumes a restart may meet, and which calls may come next.
+
+What the log did is taken from the oracle's trace. The volume's bytes are looked at for two things alone: whether restart's walk wraps or
+leaves the volume, and whether the entry that a read would meet ends within its page.
+"""
+
+CEILING = 1879048192
+LENGTH_MOST = 2**32 - 5
+
+
+def word_at(data, at):
+    return int.from_bytes(data[at:at + 4], "little")
+
+
+def admits_restart(volume, page_size):
+    """Whether restart's walk neither wraps nor leaves the volume, and no page ID reaches the ceiling."""
+    newest = None
+    for start in range(0, len(volume), page_size):
+        page_id = word_at(volume, start)
+        if page_id % len(volume) == start:
+            if page_id >= CEILING:
+                return False
+            newest = max(newest or 0, page_id)
+    if newest is None:
+        return True
+    start, at = newest % len(volume), 4
+    while at < page_size and volume[start + at] not in (0, 255):
+        end = at + 4 + word_at(volume, start + at)
+        if start + at + 4 > len(volume) or end >= 2**32:
+            return False
+        if end > page_size:
+            break
+        at = end
+    return at < page_size or newest + page_size < CEILING
+
+
+class Tracker:
+    """What is due after the calls made so far."""
+
+    def __init__(self, page_size, count, first, volume):
+        self.page_size = page_size
+        self.first = first
+        self.volume = bytearray(volume)
+        assert len(self.volume) == page_size * count
+        self.under_way = None  # or (write or erase, its slot)
+        self.deferred = False  # a deferred call is due
+        self.erasing = False  # from an erase's request to its report; where the driver refused, with nothing under way
+        self.handed_out = {}  # the IDs since the last restart or finished erase, as keys, in their order
+        self.O = self.R = self.A = 0
+        self.page = ""
+
+    def copy(self):
+        other = Tracker.__new__(Tracker)
+        other.__dict__.update(self.__dict__)
+        other.volume = bytearray(self.volume)
+        other.handed_out = dict(self.handed_out)
+        return other
+
+    def idle(self):
+        return not (self.under_way or self.deferred or self.erasing)
+
+    def stuck(self):
+        """The driver refused an erase: nothing but a restart ends that."""
+        return self.erasing and not self.under_way
+
+    def allows(self, line):
+        """Whether a line of a script may come now."""
+        words = line.split(" ", 2)
+        allowed = getattr(self, "allows_" + words[0], None)
+        return allowed is None or allowed(words[1:])
+
+    def allows_append(self, words):
+        length = int(words[0])
+        if length > LENGTH_MOST:
+            return False
+        if not self.idle():
+            return True
+        offset = self.A % self.page_size
+        fits = offset != 0 and length + 4 <= self.page_size - offset
+        return fits or self.A + -self.A % self.page_size < CEILING
+
+    def allows_sync(self, words):
+        return self.A < CEILING
+
+    def allows_read(self, words):
+        return int(words[0]) <= LENGTH_MOST and (not self.idle() or self.read_stays_in_page())
+
+    def allows_seek(self, words):
+        return self.idle() and int(words[0]) in self.handed_out
+
+    def allows_erase(self, words):
+        return self.A >= self.page_size
+
+    def allows_deferred(self, words):
+        return self.deferred or self.idle()
+
+    def allows_write_complete(self, words):
+        return self.under_way is not None and self.under_way[0] == "write"
+
+    def allows_erase_complete(self, words):
+        """Where the driver refused, the completion is not delivered to either side."""
+        return self.stuck() or (self.under_way is not None and self.under_way[0] == "erase")
+
+    def byte(self, position):
+        """The byte at a position of the log: the page buffer has the page of the last byte appended."""
+        offset = position % self.page_size
+        if position // self.page_size == (self.A - 1) // self.page_size:
+            return int(self.page[2 * offset:2 * offset + 2], 16)
+        return self.volume[position % len(self.volume)]
+
+    def next_entry(self):
+        """Where the next read looks for an entry, and the length it finds there; None at the log's end, and for the length where its word doesn't lie in the page."""
+        at = self.R
+        if at % self.page_size == 0:
+            at += 4
+        elif self.byte(at) == 255:
+            at += self.page_size - at % self.page_size + 4
+        if at >= self.A:
+            return None, None
+        if at % self.page_size + 4 > self.page_size:
+            return at, None
+        return at, sum(self.byte(at + i) << 8 * i for i in range(4))
+
+    def read_stays_in_page(self):
+        at, length = self.next_entry()
+        if at is None:
+            return True
+        if length is None:
+            return False
+        refused = length == 0 or length > self.page_size - 8
+        return refused or at % self.page_size + 4 + length <= self.page_size
+
+    def update(self, line, step):
+        """Takes in a call and its trace (None: it was not delivered)."""
+        if step is None:
+            return
+        words = line.split(" ")
+        name = words[0]
+        if name == "restart":
+            self.under_way, self.deferred, self.erasing = None, False, False
+        if name in ("write_complete", "erase_complete"):
+            self.leave(words[2])
+        if step.request != "-":
+            kind, page = step.request.split(" ")
+            self.erasing = self.erasing or kind == "erase"
+            if words[-1] == "ok":
+                self.under_way = kind, int(page) - self.first
+        if name in ("read", "seek") and step.answer == 0:
+            self.deferred = True
+        report = step.report.split(" ", 1)[0]
+        if report in ("read_done", "seek_done"):
+            self.deferred = False
+        elif report == "erase_done":
+            self.erasing = False
+        self.O, self.R, self.A, self.page = step.O, step.R, step.A, step.page
+        if name == "restart" or step.report == "erase_done 0":
+            self.handed_out = {}
+        self.handed_out.update({step.O: None, step.R: None, step.A: None})
+
+    def leave(self, left):
+        """The operation under way ends; the page buffer hasn't changed since a write began."""
+        slot = self.under_way[1]
+        self.under_way = None
+        start, end = slot * self.page_size, (slot + 1) * self.page_size
+        if left == "blank":
+            self.volume[start:end] = b"\xff" * self.page_size
+        elif left == "new":
+            self.volume[start:end] = bytes.fromhex(self.page)
