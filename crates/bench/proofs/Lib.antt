@@ -1,2 +1,3 @@
 -- The laws of the flash.
 pub mod Slots
+pub mod Invariant

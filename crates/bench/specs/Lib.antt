@@ -1,2 +1,6 @@
 -- "Bench flash and page book".
 pub mod Flash
+pub mod Event
+pub mod World
+pub mod Book
+pub mod Promise
