@@ -1,3 +1,4 @@
 -- The laws of the flash.
 pub mod Slots
 pub mod Invariant
+pub mod BookPages
