@@ -2,3 +2,4 @@
 pub mod Slots
 pub mod Invariant
 pub mod BookPages
+pub mod RestartKeeps

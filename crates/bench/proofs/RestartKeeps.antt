@@ -1,0 +1,147 @@
+-- A restart finds what the book says: the invariant holds after it. w is the width of a word, g the sizes, `circular` the mode.
+use Prim.Native.Nat.{ℕ, zero, suc, _+_, _*_, _-_, _/_, _%_, _≤_, _<_}
+use mathlib.Core.Path.{_≡_, refl, sym, ap, _∙_}
+use mathlib.Core.Bool.{Bool, true, false, not, _&&_, _||_}
+use mathlib.Core.List.{List, [], _∷_, append-nil}
+use mathlib.Core.Logic.{_⊎_, inl, inr}
+use mathlib.Core.Option.{Option, none, some}
+use native.Mathlib.Omega.{arith}
+use native.Mathlib.Decide.{decLt}
+use native.Mathlib.Nat.{mod-lt, add-mod-right, mul-mod-left, mul-div-cancel}
+use lib.ListN.{length, take, replicate, length-replicate}
+use lib.Dec.{ltb, leb, eqb}
+use borrow.Author.Tests.{ltb-true, lt-ltb, le-ltb, eqb-true, eqb-false, eq-eqb, ne-eqb}
+use Rattle.page.specs.Pick.{pick}
+use Rattle.page.specs.Sizes.{Sizes, ceiling}
+use Rattle.page.specs.Id.{slotOf, firstId, roundUp}
+use Rattle.page.specs.Word.{wordBytes}
+use Rattle.page.specs.Slots.{slotBytes}
+use Rattle.page.specs.Header.{header, validIds, Extent}
+use Rattle.page.specs.Layout.{encodePage, wholePage, pageLength, AllGood}
+use Rattle.page.specs.Walk.{walked}
+use Rattle.page.proofs.Kit.{Facts, facts, both, pages-le, round-first}
+use Rattle.page.proofs.Words.{length-wordBytes}
+use Rattle.page.proofs.Overwrites.{length-overwrite}
+use Rattle.page.proofs.Headers.{take-replicate}
+use Rattle.page.proofs.Pages.{length-wholePage, walked-page, begins-header, begins-whole}
+use Rattle.log.specs.Log.{Geometry, Log}
+use Rattle.log.specs.Check.{stateFits}
+use Rattle.log.specs.Open.{mayOpen, openedId, openedPage}
+use Rattle.log.specs.Restart.{atRest, headers, newestPage, walkedId, opens, recoveredId, recoveredPage, logFrom, pageFrom, restoredLog, restoredPage}
+use Rattle.log.proofs.Checks.{fits-state}
+use Rattle.log.proofs.Opens.{ltb-leb}
+use Rattle.log.proofs.RestartState.{restored-fits}
+use Rattle.bench.specs.Flash.{nothing, blank}
+use Rattle.bench.specs.World.{World}
+use Rattle.bench.specs.Book.{Page, Book, emptyPage, withOpen, allowed, fills, nextPage, pages, newest, least, reopened}
+use Rattle.bench.specs.Promise.{bookOldest, bookAppend}
+use Rattle.bench.proofs.Invariant.{Holds, SlotHolds, Has, Books, Running, idle}
+use Rattle.bench.proofs.BookPages.{Top, Bottom, Survey, empty, found, one-page, no-page, survey}
+
+-- not (not x or y) is x and not y
+not-or : (x y : Bool) → not (not x || y) ≡ (x && not y)
+not-or true y = refl
+not-or false y = refl
+
+-- a page ends in the volume exactly if it is below N
+in-volume : (j n : ℕ) {p : ℕ} → 0 < p → ltb (n * p) (j * p + p) ≡ not (ltb j n)
+in-volume j n {p} h = go (decLt j n)
+  where
+    go : Dec (j < n) → ltb (n * p) (j * p + p) ≡ not (ltb j n)
+    go (yes l) = rw (lt-ltb j n l) (le-ltb (n * p) (j * p + p) (omega (arith, pages-le {k = j + 1} {j = n} p (omega arith))))
+    go (no l) = let u : n ≤ j = omega arith in rw (le-ltb j n u) (lt-ltb (n * p) (j * p + p) (omega (arith, pages-le p u)))
+
+-- the log may open a page exactly where the book allows it
+pub may-allowed : {w : ℕ} (g : Geometry) (circular : Bool) → Sizes w (g .p) (g .n) → (j : ℕ) → mayOpen w g circular (firstId (g .p) j) ≡ allowed w g circular j
+unfolding mayOpen
+may-allowed {w} g circular z j =
+    let f = facts z in
+    let up : roundUp (g .p) (j * g .p) ≡ j * g .p = round-first (j * g .p) (f .page) (mul-mod-left j (g .p)) in
+    rw (up, ltb-leb (j * g .p) (ceiling w)) (go circular (in-volume j (g .n) (f .page)))
+  where
+    go : (c : Bool) → ltb (g .n * g .p) (j * g .p + g .p) ≡ not (ltb j (g .n))
+        → not ((not c && ltb (g .n * g .p) (j * g .p + g .p)) || leb (ceiling w) (j * g .p)) ≡ ((c || ltb j (g .n)) && not (leb (ceiling w) (j * g .p)))
+    go true e = refl
+    go false e = rw e (not-or (ltb j (g .n)) (leb (ceiling w) (j * g .p)))
+
+-- a page below an allowed one is allowed
+pub allowed-below : (w : ℕ) (g : Geometry) (circular : Bool) {j k : ℕ} → j ≤ k → allowed w g circular k ≡ true → allowed w g circular j ≡ true
+allowed-below w g circular {j} {k} h e =
+    let t = both (circular || ltb k (g .n)) (ltb (k * g .p) (ceiling w)) e in
+    let l = ltb-true (k * g .p) (ceiling w) (t .1) in
+    let low : ltb (j * g .p) (ceiling w) ≡ true = lt-ltb (j * g .p) (ceiling w) (omega (arith, pages-le (g .p) h)) in
+    rw (low, go circular (t .0))
+  where
+    go : (c : Bool) → (c || ltb k (g .n)) ≡ true → (c || ltb j (g .n)) ≡ true
+    go true q = refl
+    go false q = let l = ltb-true k (g .n) q in lt-ltb j (g .n) (omega arith)
+
+-- the page 0 is allowed
+pub allowed-zero : {w : ℕ} (g : Geometry) (circular : Bool) → Sizes w (g .p) (g .n) → allowed w g circular 0 ≡ true
+allowed-zero {w} g circular z =
+    let f = facts z in
+    let low : ltb (0 * g .p) (ceiling w) ≡ true = lt-ltb (0 * g .p) (ceiling w) (omega (arith, f)) in
+    rw (low, go circular (lt-ltb 0 (g .n) (f .count)))
+  where
+    go : (c : Bool) → ltb 0 (g .n) ≡ true → (c || ltb 0 (g .n)) ≡ true
+    go true q = refl
+    go false q = q
+
+-- the word 0 is bytes 0
+pub zero-word : (w : ℕ) → wordBytes w 0 ≡ replicate w 0
+zero-word zero = refl
+zero-word (suc w) = ap (λ (r : List ℕ). 0 ∷ r) (zero-word w)
+
+-- a page of bytes 0 begins with the empty page 0
+pub begins-zero : (w p : ℕ) → w ≤ p → take (pageLength w []) (replicate p 0) ≡ encodePage w p 0 []
+unfolding encodePage
+begins-zero w p h =
+    let z : 0 * p ≡ 0 = omega arith in
+    let l : w + 0 ≡ w = omega arith in
+    rw (append-nil, l, z, zero-word w) (take-replicate w p 0 h)
+
+-- the world and the book after a restart that isn't refused: l is its log, page' its page buffer, k its open page
+pub record Found (w : ℕ) (g : Geometry) (circular : Bool) (volume hold : List ℕ) (b : Book) (l : Log) (page' : List ℕ) (k : Page) : Type 0 where
+  pub books : Books w g circular volume (withOpen b k)
+  pub running : Running w g circular (record { power = true; log = l; page = page'; hold = hold; volume = volume; operation = nothing }) (withOpen b k)
+  pub oldest : l .oldest ≡ bookOldest w g (withOpen b k)
+  pub append : l .append ≡ bookAppend w g (withOpen b k)
+  pub open-is : (h : Has g (withOpen b k) (k .number)) → h .page .entries ≡ k .entries
+  pub open-none : (Has g (withOpen b k) (k .number) → ⊥) → k .entries ≡ []
+
+module _ {w : ℕ} {g : Geometry} {circular : Bool} {volume : List ℕ} {b : Book} (bk : Books w g circular volume b) where
+  f : Facts w (g .p) (g .n)
+  f = facts (bk .sizes)
+
+  -- the open page is no matter to which pages the book has
+  has-back : {k : Page} {m : ℕ} → Has g (withOpen b k) m → Has g b m
+  has-back h = record { page = h .page; there = h .there; number = h .number }
+
+  has-on : {k : Page} {m : ℕ} → Has g b m → Has g (withOpen b k) m
+  has-on h = record { page = h .page; there = h .there; number = h .number }
+
+  -- a page in a slot is one that the book has
+  has-slot : (s : ℕ) (k : Page) → s < g .n → b .slots s ≡ some k → Has g b (k .number)
+  has-slot s k l e = record { page = k; there = of (b .slots s) e (bk .slots s l); number = refl }
+    where
+      of : (o : Option Page) → o ≡ some k → SlotHolds w g volume s o → b .slots (slotOf (g .n) (k .number)) ≡ some k
+      of none q v = absurd (no-page refl q)
+      of (some j) q v =
+          let i : j ≡ k = cc in
+          let at : slotOf (g .n) (j .number) ≡ s = v .slot in
+          ap (λ (r : Page). b .slots (slotOf (g .n) (r .number))) (sym i) ∙ ap (b .slots) at ∙ e
+
+  -- what a slot with a page holds
+  holds : (s : ℕ) (k : Page) → s < g .n → b .slots s ≡ some k → Holds w g volume s k
+  holds s k l e = rw e at (bk .slots s l)
+
+  -- where no slot has a page the book has none
+  has-none : ((s : ℕ) → s < g .n → b .slots s ≡ none) → (m : ℕ) → Has g b m → ⊥
+  has-none e m h = no-page (e (m % g .n) (mod-lt m (f .count))) (h .there)
+
+  -- a page that the book has is no newer than the newest and no older than the oldest
+  has-top : {k : Page} → Top (b .slots) (g .n) k → (m : ℕ) → Has g b m → m ≤ k .number
+  has-top t m h = let u = t .to (m % g .n) (h .page) (mod-lt m (f .count)) (h .there) in omega (arith, h .number)
+
+  has-bottom : {a : ℕ} → Bottom (b .slots) (g .n) a → (m : ℕ) → Has g b m → a ≤ m
+  has-bottom t m h = let u = t .from (m % g .n) (h .page) (mod-lt m (f .count)) (h .there) in omega (arith, h .number)
