@@ -145,3 +145,97 @@ module _ {w : ℕ} {g : Geometry} {circular : Bool} {volume : List ℕ} {b : Boo
 
   has-bottom : {a : ℕ} → Bottom (b .slots) (g .n) a → (m : ℕ) → Has g b m → a ≤ m
   has-bottom t m h = let u = t .from (m % g .n) (h .page) (mod-lt m (f .count)) (h .there) in omega (arith, h .number)
+
+  -- a restart with no page in the book: "an empty page 0"
+  found-empty : (read-client append-client : Bool) (hold : List ℕ) → length hold ≡ g .p → ((s : ℕ) → s < g .n → b .slots s ≡ none) → least (pages (g .n) (b .slots)) ≡ none
+      → stateFits w (atRest g circular read-client append-client w w) ≡ true
+      → Found w g circular volume hold b (atRest g circular read-client append-client w w) (replicate (g .p) 0) (emptyPage 0)
+  found-empty read-client append-client hold lh e low fits =
+      let no-has : (m : ℕ) → Has g (withOpen b (emptyPage 0)) m → ⊥ = λ m h. has-none e m (has-back h) in
+      let at : w ≡ 0 * g .p + (w + 0) = omega arith in
+      record {
+        books = record {
+          sizes = bk .sizes;
+          first = bk .first;
+          whole = bk .whole;
+          open-allowed = allowed-zero g circular (bk .sizes);
+          open-fits = omega (arith, f);
+          open-good = tt;
+          slots = bk .slots;
+          near = λ m h. absurd (no-has m h);
+          gaps = λ m h. absurd (no-has m h);
+          open-some = λ h. absurd (no-has 0 h);
+        };
+        running = record {
+          geometry = refl;
+          mode = refl;
+          page-length = length-replicate (g .p) 0;
+          hold-length = lh;
+          fits = fits;
+          appends = at;
+          begins = begins-zero w (g .p) (omega (arith, f));
+          oldest-page = 0;
+          oldest = omega arith;
+          oldest-near = (omega arith, omega arith);
+          live = λ m h. absurd (no-has m h);
+          under = idle;
+        };
+        oldest = rw low;
+        append = at;
+        open-is = λ h. absurd (no-has 0 h);
+        open-none = λ h. refl;
+      }
+
+  -- the newest page k of the book and the least number a
+  module _ {k : Page} {a : ℕ} (t : Top (b .slots) (g .n) k) (u : Bottom (b .slots) (g .n) a) where
+    -- what its slot holds
+    its : Holds w g volume (t .slot) k
+    its = holds (t .slot) k (t .below) (t .is)
+
+    -- the book has it
+    has-newest : Has g b (k .number)
+    has-newest = has-slot (t .slot) k (t .below) (t .is)
+
+    -- and it has the least
+    has-least : Has g b a
+    has-least = rw (u .number) at (has-slot (u .slot) (u .page) (u .below) (u .is))
+
+    -- its page alone
+    newest-is : newestPage g (k .number * g .p) volume ≡ wholePage w (g .p) (k .number) (k .entries)
+    newest-is =
+        let q : k .number * g .p / g .p ≡ k .number = mul-div-cancel (k .number) (f .page) in
+        ap (λ j. slotBytes (g .p) (slotOf (g .n) j) volume) q ∙ ap (λ s. slotBytes (g .p) s volume) (its .slot) ∙ its .bytes
+
+    -- its walk ends where its entries do
+    newest-walk : walked w (newestPage g (k .number * g .p) volume) ≡ pageLength w (k .entries)
+    newest-walk = ap (walked w) newest-is ∙ walked-page (bk .sizes .page) (k .number) (k .entries) (its .good)
+
+    -- restart opens the next page where the book does
+    opens-is : opens w g circular (k .number * g .p) volume ≡ (fills w (g .p) k && allowed w g circular (k .number + 1))
+    unfolding opens
+    opens-is = rw newest-walk (go (fills w (g .p) k) refl)
+      where
+        go : (c : Bool) → fills w (g .p) k ≡ c
+            → (c && mayOpen w g circular (k .number * g .p + pageLength w (k .entries))) ≡ (c && allowed w g circular (k .number + 1))
+        go false q = refl
+        go true q =
+            let l : pageLength w (k .entries) ≡ g .p = eqb-true (pageLength w (k .entries)) (g .p) q in
+            let i : k .number * g .p + pageLength w (k .entries) ≡ (k .number + 1) * g .p = omega arith in
+            ap (mayOpen w g circular) i ∙ may-allowed g circular (bk .sizes) (k .number + 1)
+
+    -- the newest page is no newer than the open page was
+    newest-old : k .number ≤ b .open-page .number
+    newest-old = bk .near (k .number) has-newest .0
+
+    -- every page of the book lies less than N pages before the next one: only one page has a slot
+    near-next : (m : ℕ) → Has g b m → k .number + 1 ≤ m + g .n
+    near-next m h = go (decLt (k .number) (m + g .n))
+      where
+        go : Dec (k .number < m + g .n) → k .number + 1 ≤ m + g .n
+        go (yes l) = omega arith
+        go (no l) =
+            let i : k .number ≡ m + g .n = omega (arith, newest-old, bk .near m h .1) in
+            let s : slotOf (g .n) (k .number) ≡ slotOf (g .n) m = ap (slotOf (g .n)) i ∙ add-mod-right m (g .n) in
+            let same = one-page (h .there) (ap (b .slots) (sym s) ∙ has-newest .there) in
+            let n = ap (λ (r : Page). r .number) same in
+            absurd (omega (arith, n, h .number, has-newest .number, f .count))
