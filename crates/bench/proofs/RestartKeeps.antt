@@ -15,6 +15,7 @@ use Rattle.page.specs.Pick.{pick}
 use Rattle.page.specs.Sizes.{Sizes, ceiling}
 use Rattle.page.specs.Id.{slotOf, firstId, roundUp}
 use Rattle.page.specs.Word.{wordBytes}
+use Rattle.page.specs.Bytes.{overwrite}
 use Rattle.page.specs.Slots.{slotBytes}
 use Rattle.page.specs.Header.{header, validIds, Extent}
 use Rattle.page.specs.Layout.{encodePage, wholePage, pageLength, AllGood}
@@ -120,9 +121,9 @@ module _ {w : ℕ} {g : Geometry} {circular : Bool} {volume : List ℕ} {b : Boo
   has-on : {k : Page} {m : ℕ} → Has g b m → Has g (withOpen b k) m
   has-on h = record { page = h .page; there = h .there; number = h .number }
 
-  -- a page in a slot is one that the book has
-  has-slot : (s : ℕ) (k : Page) → s < g .n → b .slots s ≡ some k → Has g b (k .number)
-  has-slot s k l e = record { page = k; there = of (b .slots s) e (bk .slots s l); number = refl }
+  -- a page in a slot stands in the slot of its number
+  slot-there : (s : ℕ) (k : Page) → s < g .n → b .slots s ≡ some k → b .slots (slotOf (g .n) (k .number)) ≡ some k
+  slot-there s k l e = of (b .slots s) e (bk .slots s l)
     where
       of : (o : Option Page) → o ≡ some k → SlotHolds w g volume s o → b .slots (slotOf (g .n) (k .number)) ≡ some k
       of none q v = absurd (no-page refl q)
@@ -130,6 +131,10 @@ module _ {w : ℕ} {g : Geometry} {circular : Bool} {volume : List ℕ} {b : Boo
           let i : j ≡ k = cc in
           let at : slotOf (g .n) (j .number) ≡ s = v .slot in
           ap (λ (r : Page). b .slots (slotOf (g .n) (r .number))) (sym i) ∙ ap (b .slots) at ∙ e
+
+  -- so the book has it
+  has-slot : (s : ℕ) (k : Page) → s < g .n → b .slots s ≡ some k → Has g b (k .number)
+  has-slot s k l e = record { page = k; there = slot-there s k l e; number = refl }
 
   -- what a slot with a page holds
   holds : (s : ℕ) (k : Page) → s < g .n → b .slots s ≡ some k → Holds w g volume s k
@@ -239,3 +244,156 @@ module _ {w : ℕ} {g : Geometry} {circular : Bool} {volume : List ℕ} {b : Boo
             let same = one-page (h .there) (ap (b .slots) (sym s) ∙ has-newest .there) in
             let n = ap (λ (r : Page). r .number) same in
             absurd (omega (arith, n, h .number, has-newest .number, f .count))
+
+    -- a restart that keeps the newest page open
+    found-kept : (read-client append-client : Bool) (hold : List ℕ) → length hold ≡ g .p → least (pages (g .n) (b .slots)) ≡ some a
+        → {oldest append : ℕ} {page' : List ℕ} → oldest ≡ a * g .p + w → append ≡ walkedId w g (k .number * g .p) volume → page' ≡ newestPage g (k .number * g .p) volume
+        → stateFits w (atRest g circular read-client append-client oldest append) ≡ true
+        → Found w g circular volume hold b (atRest g circular read-client append-client oldest append) page' k
+    found-kept read-client append-client hold lh low {oldest} {append} {page'} eo ea ep fits =
+        let at : append ≡ k .number * g .p + pageLength w (k .entries) = ea ∙ ap (λ n. k .number * g .p + n) newest-walk in
+        let bytes : page' ≡ wholePage w (g .p) (k .number) (k .entries) = ep ∙ newest-is in
+        record {
+          books = record {
+            sizes = bk .sizes;
+            first = bk .first;
+            whole = bk .whole;
+            open-allowed = allowed-below w g circular newest-old (bk .open-allowed);
+            open-fits = its .fits;
+            open-good = its .good;
+            slots = bk .slots;
+            near = λ m h. (has-top t m (has-back h), omega (arith, newest-old, bk .near m (has-back h) .1));
+            gaps = λ m h j l i. gap j (bk .gaps m (has-back h) j l (omega (arith, newest-old)));
+            open-some = λ h. its .some-entry;
+          };
+          running = record {
+            geometry = refl;
+            mode = refl;
+            page-length = ap length bytes ∙ length-wholePage w (g .p) (k .number) (k .entries) (its .fits);
+            hold-length = lh;
+            fits = fits;
+            appends = at;
+            begins = ap (take (pageLength w (k .entries))) bytes ∙ begins-whole w (g .p) (k .number) (k .entries);
+            oldest-page = a;
+            oldest = eo;
+            oldest-near = (has-top t a has-least, omega (arith, newest-old, bk .near a has-least .1));
+            live = λ m h. inl (has-bottom u m (has-back h));
+            under = idle;
+          };
+          oldest = rw low eo;
+          append = at;
+          open-is = λ h. ap (λ (r : Page). r .entries) (one-page (h .there) (slot-there (t .slot) k (t .below) (t .is)));
+          open-none = λ h. absurd (h (has-on has-newest));
+        }
+      where
+        gap : (j : ℕ) → Has g b j ⊎ (slotBytes (g .p) (slotOf (g .n) j) volume ≡ blank (g .p))
+            → Has g (withOpen b k) j ⊎ (slotBytes (g .p) (slotOf (g .n) j) volume ≡ blank (g .p))
+        gap j (inl h) = inl (has-on h)
+        gap j (inr h) = inr h
+
+    -- a restart that opens the page after the newest
+    found-next : (read-client append-client : Bool) (page hold : List ℕ) → length page ≡ g .p → length hold ≡ g .p → least (pages (g .n) (b .slots)) ≡ some a
+        → fills w (g .p) k ≡ true → allowed w g circular (k .number + 1) ≡ true
+        → {oldest append : ℕ} {page' : List ℕ} → oldest ≡ a * g .p + w → append ≡ openedId w g (walkedId w g (k .number * g .p) volume)
+        → page' ≡ openedPage w g (walkedId w g (k .number * g .p) volume) page
+        → stateFits w (atRest g circular read-client append-client oldest append) ≡ true
+        → Found w g circular volume hold b (atRest g circular read-client append-client oldest append) page' (emptyPage (k .number + 1))
+    found-next read-client append-client page hold lp lh low full may {oldest} {append} {page'} eo ea ep fits =
+        let len : pageLength w (k .entries) ≡ g .p = eqb-true (pageLength w (k .entries)) (g .p) full in
+        let walk : walkedId w g (k .number * g .p) volume ≡ (k .number + 1) * g .p = ap (λ n. k .number * g .p + n) newest-walk ∙ omega arith in
+        let up : roundUp (g .p) (walkedId w g (k .number * g .p) volume) ≡ (k .number + 1) * g .p =
+        ap (roundUp (g .p)) walk ∙ round-first ((k .number + 1) * g .p) (f .page) (mul-mod-left (k .number + 1) (g .p)) in
+        let at : append ≡ (k .number + 1) * g .p + (w + 0) = ea ∙ omega (arith, up) in
+        let bytes : page' ≡ overwrite page 0 (wordBytes w (firstId (g .p) (k .number + 1))) = ep ∙ ap (λ n. overwrite page 0 (wordBytes w n)) up in
+        let new : Has g (withOpen b (emptyPage (k .number + 1))) (k .number + 1) → ⊥ = λ h. omega (arith, has-top t (k .number + 1) (has-back h)) in
+        record {
+          books = record {
+            sizes = bk .sizes;
+            first = bk .first;
+            whole = bk .whole;
+            open-allowed = may;
+            open-fits = omega (arith, f);
+            open-good = tt;
+            slots = bk .slots;
+            near = λ m h. (omega (arith, has-top t m (has-back h)), near-next m (has-back h));
+            gaps = λ m h j l i. gap m (has-back h) j l i (decLt j (k .number));
+            open-some = λ h. absurd (new h);
+          };
+          running = record {
+            geometry = refl;
+            mode = refl;
+            page-length = ap length bytes ∙ length-overwrite page 0 (wordBytes w (firstId (g .p) (k .number + 1))) (omega (arith, f, length-wordBytes w (firstId (g .p) (k .number + 1)))) ∙ lp;
+            hold-length = lh;
+            fits = fits;
+            appends = at;
+            begins = ap (take (pageLength w [])) bytes ∙ begins-header w (g .p) (k .number + 1) page;
+            oldest-page = a;
+            oldest = eo;
+            oldest-near = (omega (arith, has-top t a has-least), near-next a has-least);
+            live = λ m h. inl (has-bottom u m (has-back h));
+            under = idle;
+          };
+          oldest = rw low eo;
+          append = at;
+          open-is = λ h. absurd (new h);
+          open-none = λ h. refl;
+        }
+      where
+        on : (j : ℕ) → Has g b j ⊎ (slotBytes (g .p) (slotOf (g .n) j) volume ≡ blank (g .p))
+            → Has g (withOpen b (emptyPage (k .number + 1))) j ⊎ (slotBytes (g .p) (slotOf (g .n) j) volume ≡ blank (g .p))
+        on j (inl h) = inl (has-on h)
+        on j (inr h) = inr h
+
+        gap : (m : ℕ) → Has g b m → (j : ℕ) → m ≤ j → j < k .number + 1 → Dec (j < k .number)
+            → Has g (withOpen b (emptyPage (k .number + 1))) j ⊎ (slotBytes (g .p) (slotOf (g .n) j) volume ≡ blank (g .p))
+        gap m h j l i (yes d) = on j (bk .gaps m h j l (omega (arith, newest-old)))
+        gap m h j l i (no d) = let q : k .number ≡ j = omega arith in inl (has-on (rw q at has-newest))
+
+    -- the ID and the page that restart recovers, by what the book says
+    recovered-id : recoveredId w g circular (k .number * g .p) volume
+        ≡ pick (fills w (g .p) k && allowed w g circular (k .number + 1)) (openedId w g (walkedId w g (k .number * g .p) volume)) (walkedId w g (k .number * g .p) volume)
+    unfolding recoveredId
+    recovered-id = rw opens-is
+
+    recovered-page : (page : List ℕ) → recoveredPage w g circular (k .number * g .p) volume page
+        ≡ pick (fills w (g .p) k && allowed w g circular (k .number + 1)) (openedPage w g (walkedId w g (k .number * g .p) volume) page) (newestPage g (k .number * g .p) volume)
+    unfolding recoveredPage
+    recovered-page page = rw opens-is
+
+    -- a restart with some page in the book
+    found-some : (read-client append-client : Bool) (page hold : List ℕ) → length page ≡ g .p → length hold ≡ g .p → least (pages (g .n) (b .slots)) ≡ some a
+        → {x : Extent} → x .least ≡ a * g .p → x .greatest ≡ k .number * g .p
+        → stateFits w (logFrom w g circular read-client append-client volume (some x)) ≡ true
+        → Found w g circular volume hold b (logFrom w g circular read-client append-client volume (some x)) (pageFrom w g circular volume page (some x)) (reopened w g circular (some k))
+    found-some read-client append-client page hold lp lh low {x} el eg fits =
+        go (fills w (g .p) k) refl (allowed w g circular (k .number + 1)) refl (ap (λ (i : ℕ). i + w) el)
+        (ap (λ (i : ℕ). recoveredId w g circular i volume) eg ∙ recovered-id) (ap (λ (i : ℕ). recoveredPage w g circular i volume page) eg ∙ recovered-page page) fits
+      where
+        go : (c : Bool) → fills w (g .p) k ≡ c → (d : Bool) → allowed w g circular (k .number + 1) ≡ d
+            → {oldest append : ℕ} {page' : List ℕ} → oldest ≡ a * g .p + w
+            → append ≡ pick (c && d) (openedId w g (walkedId w g (k .number * g .p) volume)) (walkedId w g (k .number * g .p) volume)
+            → page' ≡ pick (c && d) (openedPage w g (walkedId w g (k .number * g .p) volume) page) (newestPage g (k .number * g .p) volume)
+            → stateFits w (atRest g circular read-client append-client oldest append) ≡ true
+            → Found w g circular volume hold b (atRest g circular read-client append-client oldest append) page' (pick c (pick d (emptyPage (k .number + 1)) k) k)
+        go true qc true qd eo ea ep s = found-next read-client append-client page hold lp lh low qc qd eo ea ep s
+        go true qc false qd eo ea ep s = found-kept read-client append-client hold lh low eo ea ep s
+        go false qc d qd eo ea ep s = found-kept read-client append-client hold lh low eo ea ep s
+
+-- the world and the book after a restart that isn't refused
+abbrev pub Restored : (w : ℕ) (g : Geometry) (circular read-client append-client : Bool) (volume page hold : List ℕ) (b : Book) → Type 0
+Restored w g circular read-client append-client volume page hold b =
+    Found w g circular volume hold b (restoredLog w g circular read-client append-client volume) (restoredPage w g circular volume page)
+    (reopened w g circular (newest (pages (g .n) (b .slots))))
+
+-- after a restart that isn't refused, the log is where the book says
+pub restored : {w : ℕ} {g : Geometry} {circular : Bool} (read-client append-client : Bool) (volume page hold : List ℕ) (b : Book)
+    → Books w g circular volume b → length page ≡ g .p → length hold ≡ g .p → Restored w g circular read-client append-client volume page hold b
+unfolding restoredLog restoredPage validIds
+restored {w} {g} {circular} read-client append-client volume page hold b bk lp lh =
+    go refl refl (survey g volume (b .slots) (bk .sizes) (bk .slots) (g .n) (omega arith)) (fits-state w _ (restored-fits g circular volume (bk .sizes) (bk .whole) read-client append-client))
+  where
+    go : {h : Option Extent} {l : Option ℕ} {k : Option Page} → least (pages (g .n) (b .slots)) ≡ l → newest (pages (g .n) (b .slots)) ≡ k → Survey (g .p) (b .slots) (g .n) h l k
+        → stateFits w (logFrom w g circular read-client append-client volume h) ≡ true
+        → Found w g circular volume hold b (logFrom w g circular read-client append-client volume h) (pageFrom w g circular volume page h) (reopened w g circular k)
+    go low top (empty e) s = found-empty bk read-client append-client hold lh e low s
+    go low top (found el eg u t) s = found-some bk t u read-client append-client page hold lp lh low el eg s
