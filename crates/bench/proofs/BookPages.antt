@@ -1,14 +1,11 @@
 -- Laws of the book's pages: the newest and the least of them, and the headers that they have in the volume.
-use Prim.Native.Nat.{ℕ, zero, suc, _+_, _*_, _%_, _≤_, _<_, min, max}
-use mathlib.Core.Path.{_≡_, refl, sym, ap, _∙_}
-use mathlib.Core.Bool.{Bool, true, false}
-use mathlib.Core.List.{List, [], _∷_}
+use Prim.Native.Nat.{ℕ, zero, suc, _*_, _≤_, _<_, min, max}
+use mathlib.Core.Path.{_≡_, refl, sym, ap}
+use mathlib.Core.List.{List}
 use mathlib.Core.Option.{Option, none, some}
 use native.Mathlib.Omega.{arith}
 use native.Mathlib.Decide.{decLt}
-use lib.Dec.{ltb}
 use borrow.Author.Tests.{lt-ltb, le-ltb}
-use Rattle.page.specs.Pick.{pick}
 use Rattle.page.specs.Sizes.{Sizes}
 use Rattle.page.specs.Header.{header, joined, idsBelow, Extent, widen, extent}
 use Rattle.page.proofs.Kit.{pages-le}
@@ -103,19 +100,21 @@ module _ (p : ℕ) (slots : ℕ → Option Page) (m : ℕ) where
         from s i b q (yes l) = t .from s i l q
         from s i b q (no l) = let v : s ≡ m = omega arith in let z = ap (λ (r : Page). r .number) (one-page e (rw v at q)) in omega arith
 
-    -- the newer of the two, and the lesser number
+    -- the newer of the two
     top-next : {j : Page} → Top slots m j → Dec (k .number < j .number) → Top slots (suc m) (newer k (some j))
     top-next {j} t (yes l) = rw (lt-ltb (k .number) (j .number) l) (top-old (omega arith) t)
     top-next {j} t (no l) =
         let u : j .number ≤ k .number = omega arith in
         rw (le-ltb (k .number) (j .number) u) (top-new (λ s i b q. omega (arith, t .to s i b q)))
 
+    -- the lesser number
     bottom-next : {a : ℕ} → Bottom slots m a → Dec (a < k .number) → Bottom slots (suc m) (lesser (k .number) (some a))
     bottom-next {a} t (yes l) = rw (lt-ltb a (k .number) l) (bottom-old (omega arith) t)
     bottom-next {a} t (no l) =
         let u : k .number ≤ a = omega arith in
         rw (le-ltb a (k .number) u) (bottom-new (λ s i b q. omega (arith, t .from s i b q)))
 
+    -- all of them together
     pub survey-some : {x : Option Extent} {l : Option ℕ} {y : Option Page} → Survey p slots m x l y
         → Survey p slots (suc m) (some (widen (k .number * p) x)) (some (lesser (k .number) l)) (some (newer k y))
     survey-some (empty h) = found refl refl (bottom-new (λ s j b i. absurd (no-page (h s b) i))) (top-new (λ s j b i. absurd (no-page (h s b) i)))

@@ -1,5 +1,5 @@
 -- A restart finds what the book says: the invariant holds after it. w is the width of a word, g the sizes, `circular` the mode.
-use Prim.Native.Nat.{ℕ, zero, suc, _+_, _*_, _-_, _/_, _%_, _≤_, _<_}
+use Prim.Native.Nat.{ℕ, zero, suc, _+_, _*_, _/_, _%_, _≤_, _<_}
 use mathlib.Core.Path.{_≡_, refl, sym, ap, _∙_}
 use mathlib.Core.Bool.{Bool, true, false, not, _&&_, _||_}
 use mathlib.Core.List.{List, [], _∷_, append-nil}
@@ -9,16 +9,16 @@ use native.Mathlib.Omega.{arith}
 use native.Mathlib.Decide.{decLt}
 use native.Mathlib.Nat.{mod-lt, add-mod-right, mul-mod-left, mul-div-cancel}
 use lib.ListN.{length, take, replicate, length-replicate}
-use lib.Dec.{ltb, leb, eqb}
-use borrow.Author.Tests.{ltb-true, lt-ltb, le-ltb, eqb-true, eqb-false, eq-eqb, ne-eqb}
+use lib.Dec.{ltb, leb}
+use borrow.Author.Tests.{ltb-true, lt-ltb, le-ltb, eqb-true}
 use Rattle.page.specs.Pick.{pick}
 use Rattle.page.specs.Sizes.{Sizes, ceiling}
 use Rattle.page.specs.Id.{slotOf, firstId, roundUp}
 use Rattle.page.specs.Word.{wordBytes}
 use Rattle.page.specs.Bytes.{overwrite}
 use Rattle.page.specs.Slots.{slotBytes}
-use Rattle.page.specs.Header.{header, validIds, Extent}
-use Rattle.page.specs.Layout.{encodePage, wholePage, pageLength, AllGood}
+use Rattle.page.specs.Header.{validIds, Extent}
+use Rattle.page.specs.Layout.{encodePage, wholePage, pageLength}
 use Rattle.page.specs.Walk.{walked}
 use Rattle.page.proofs.Kit.{Facts, facts, both, pages-le, round-first}
 use Rattle.page.proofs.Words.{length-wordBytes}
@@ -28,13 +28,12 @@ use Rattle.page.proofs.Pages.{length-wholePage, walked-page, begins-header, beg
 use Rattle.log.specs.Log.{Geometry, Log}
 use Rattle.log.specs.Check.{stateFits}
 use Rattle.log.specs.Open.{mayOpen, openedId, openedPage}
-use Rattle.log.specs.Restart.{atRest, headers, newestPage, walkedId, opens, recoveredId, recoveredPage, logFrom, pageFrom, restoredLog, restoredPage}
+use Rattle.log.specs.Restart.{atRest, newestPage, walkedId, opens, recoveredId, recoveredPage, logFrom, pageFrom, restoredLog, restoredPage}
 use Rattle.log.proofs.Checks.{fits-state}
 use Rattle.log.proofs.Opens.{ltb-leb}
 use Rattle.log.proofs.RestartState.{restored-fits}
 use Rattle.bench.specs.Flash.{nothing, blank}
-use Rattle.bench.specs.World.{World}
-use Rattle.bench.specs.Book.{Page, Book, emptyPage, withOpen, allowed, fills, nextPage, pages, newest, least, reopened}
+use Rattle.bench.specs.Book.{Page, Book, emptyPage, withOpen, allowed, fills, pages, newest, least, reopened}
 use Rattle.bench.specs.Promise.{bookOldest, bookAppend}
 use Rattle.bench.proofs.Invariant.{Holds, SlotHolds, Has, Books, Running, idle}
 use Rattle.bench.proofs.BookPages.{Top, Bottom, Survey, empty, found, one-page, no-page, survey}
@@ -111,13 +110,15 @@ pub record Found (w : ℕ) (g : Geometry) (circular : Bool) (volume hold : List 
   pub open-none : (Has g (withOpen b k) (k .number) → ⊥) → k .entries ≡ []
 
 module _ {w : ℕ} {g : Geometry} {circular : Bool} {volume : List ℕ} {b : Book} (bk : Books w g circular volume b) where
+  -- what the sizes tell
   f : Facts w (g .p) (g .n)
   f = facts (bk .sizes)
 
-  -- the open page is no matter to which pages the book has
+  -- the open page is no matter to which pages the book has: without another,
   has-back : {k : Page} {m : ℕ} → Has g (withOpen b k) m → Has g b m
   has-back h = record { page = h .page; there = h .there; number = h .number }
 
+  -- and with it
   has-on : {k : Page} {m : ℕ} → Has g b m → Has g (withOpen b k) m
   has-on h = record { page = h .page; there = h .there; number = h .number }
 
@@ -144,10 +145,11 @@ module _ {w : ℕ} {g : Geometry} {circular : Bool} {volume : List ℕ} {b : Boo
   has-none : ((s : ℕ) → s < g .n → b .slots s ≡ none) → (m : ℕ) → Has g b m → ⊥
   has-none e m h = no-page (e (m % g .n) (mod-lt m (f .count))) (h .there)
 
-  -- a page that the book has is no newer than the newest and no older than the oldest
+  -- a page that the book has is no newer than the newest
   has-top : {k : Page} → Top (b .slots) (g .n) k → (m : ℕ) → Has g b m → m ≤ k .number
   has-top t m h = let u = t .to (m % g .n) (h .page) (mod-lt m (f .count)) (h .there) in omega (arith, h .number)
 
+  -- and no older than the least
   has-bottom : {a : ℕ} → Bottom (b .slots) (g .n) a → (m : ℕ) → Has g b m → a ≤ m
   has-bottom t m h = let u = t .from (m % g .n) (h .page) (mod-lt m (f .count)) (h .there) in omega (arith, h .number)
 
@@ -349,12 +351,13 @@ module _ {w : ℕ} {g : Geometry} {circular : Bool} {volume : List ℕ} {b : Boo
         gap m h j l i (yes d) = on j (bk .gaps m h j l (omega (arith, newest-old)))
         gap m h j l i (no d) = let q : k .number ≡ j = omega arith in inl (has-on (rw q at has-newest))
 
-    -- the ID and the page that restart recovers, by what the book says
+    -- the ID that restart recovers, by what the book says
     recovered-id : recoveredId w g circular (k .number * g .p) volume
         ≡ pick (fills w (g .p) k && allowed w g circular (k .number + 1)) (openedId w g (walkedId w g (k .number * g .p) volume)) (walkedId w g (k .number * g .p) volume)
     unfolding recoveredId
     recovered-id = rw opens-is
 
+    -- and the page buffer
     recovered-page : (page : List ℕ) → recoveredPage w g circular (k .number * g .p) volume page
         ≡ pick (fills w (g .p) k && allowed w g circular (k .number + 1)) (openedPage w g (walkedId w g (k .number * g .p) volume) page) (newestPage g (k .number * g .p) volume)
     unfolding recoveredPage
@@ -390,10 +393,10 @@ pub restored : {w : ℕ} {g : Geometry} {circular : Bool} (read-client append-cl
     → Books w g circular volume b → length page ≡ g .p → length hold ≡ g .p → Restored w g circular read-client append-client volume page hold b
 unfolding restoredLog restoredPage validIds
 restored {w} {g} {circular} read-client append-client volume page hold b bk lp lh =
-    go refl refl (survey g volume (b .slots) (bk .sizes) (bk .slots) (g .n) (omega arith)) (fits-state w _ (restored-fits g circular volume (bk .sizes) (bk .whole) read-client append-client))
+    go refl (survey g volume (b .slots) (bk .sizes) (bk .slots) (g .n) (omega arith)) (fits-state w _ (restored-fits g circular volume (bk .sizes) (bk .whole) read-client append-client))
   where
-    go : {h : Option Extent} {l : Option ℕ} {k : Option Page} → least (pages (g .n) (b .slots)) ≡ l → newest (pages (g .n) (b .slots)) ≡ k → Survey (g .p) (b .slots) (g .n) h l k
+    go : {h : Option Extent} {l : Option ℕ} {k : Option Page} → least (pages (g .n) (b .slots)) ≡ l → Survey (g .p) (b .slots) (g .n) h l k
         → stateFits w (logFrom w g circular read-client append-client volume h) ≡ true
         → Found w g circular volume hold b (logFrom w g circular read-client append-client volume h) (pageFrom w g circular volume page h) (reopened w g circular k)
-    go low top (empty e) s = found-empty bk read-client append-client hold lh e low s
-    go low top (found el eg u t) s = found-some bk t u read-client append-client page hold lp lh low el eg s
+    go low (empty e) s = found-empty bk read-client append-client hold lh e low s
+    go low (found el eg u t) s = found-some bk t u read-client append-client page hold lp lh low el eg s
