@@ -1,3 +1,5 @@
 -- The laws of the flash.
 pub mod Slots
 pub mod Invariant
+pub mod BookPages
+pub mod RestartKeeps
