@@ -1,5 +1,6 @@
--- The laws of the flash.
+-- The laws of the flash, the book and the world.
 pub mod Slots
 pub mod Invariant
 pub mod BookPages
 pub mod RestartKeeps
+pub mod BookSteps
