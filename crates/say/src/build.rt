@@ -2,7 +2,7 @@
 use page::id::EntryID;
 
 // A page's header.
-pub(crate) fn header(page: &mut [u8], id: u32) {
+pub fn header(page: &mut [u8], id: u32) {
     if page.len() < 4 {
         return;
     }
@@ -10,7 +10,7 @@ pub(crate) fn header(page: &mut [u8], id: u32) {
 }
 
 // An entry of n bytes, all 7, at an offset, and the offset past it.
-pub(crate) fn sevens(page: &mut [u8], at: usize, n: usize) -> usize {
+pub fn sevens(page: &mut [u8], at: usize, n: usize) -> usize {
     let data = [7u8; 32];
     if 32 < n {
         return at;
@@ -26,7 +26,7 @@ pub(crate) fn sevens(page: &mut [u8], at: usize, n: usize) -> usize {
 }
 
 // A bare word at an offset, as a damaged page may have it.
-pub(crate) fn word(page: &mut [u8], at: usize, n: u32) {
+pub fn word(page: &mut [u8], at: usize, n: u32) {
     if page.len() < 4 {
         return;
     }
@@ -37,7 +37,7 @@ pub(crate) fn word(page: &mut [u8], at: usize, n: u32) {
 }
 
 // A header word into a slot of a volume of 4 pages of 32 bytes.
-pub(crate) fn slot(volume: &mut [u8], s: usize, id: u32) {
+pub fn slot(volume: &mut [u8], s: usize, id: u32) {
     if volume.len() != 128 {
         return;
     }
@@ -47,8 +47,16 @@ pub(crate) fn slot(volume: &mut [u8], s: usize, id: u32) {
     page::word::write_word(volume, s * 32, id);
 }
 
+// Four header words, in the slots' order.
+pub fn slots(volume: &mut [u8], a: u32, b: u32, c: u32, d: u32) {
+    slot(volume, 0, a);
+    slot(volume, 1, b);
+    slot(volume, 2, c);
+    slot(volume, 3, d);
+}
+
 // A page with this header into a slot of pages of 32 bytes, with one entry of n bytes.
-pub(crate) fn page(volume: &mut [u8], s: usize, id: u32, n: usize) {
+pub fn page(volume: &mut [u8], s: usize, id: u32, n: usize) {
     if 3 < s {
         return;
     }

@@ -1,5 +1,4 @@
 // An outcome, written out: the answer, the report, the request, the state, O, R, A and the kept length.
-use crate::print;
 use call::outcome::Outcome;
 use log::answer::Answer;
 use log::answer::Appended;
@@ -9,6 +8,7 @@ use log::answer::Request;
 use log::answer::Synced;
 use log::state::Log;
 use log::state::State;
+use say::print;
 
 fn number(answer: Answer) -> usize {
     match answer {
@@ -110,8 +110,8 @@ fn log(l: Log) {
     print::number(l.length);
 }
 
-pub(crate) fn line(text: &[u8], o: Outcome) -> Log {
-    print::label(text);
+pub(crate) fn line(names: &[u8], k: usize, o: Outcome) -> Log {
+    print::label(names, k);
     let answer = o.answer;
     print::number(number(answer));
     let r = o.report;

@@ -1,16 +1,16 @@
--- `cases::print::bytes` is safe and ends.
+-- `say::print::bytes` is safe and ends.
 use Prim.Native.Nat.{_-_}
 use native.Mathlib.Omega.{arith}
 use lib.ListN.{length}
 use borrow.Author.Needs.{needs}
-use Rattle.cases.proofs.print.bytes.Statement.{statement}
-use Rattle.cases.proofs.print.bytes.Tie as tie
+use Rattle.say.proofs.print.bytes.Statement.{statement}
+use Rattle.say.proofs.print.bytes.Tie as tie
 
 abbrev Inv-loop : tie.InvT-loop
-Inv-loop text b i₀ i = Unit {0}
+Inv-loop text asked b i₀ i = Unit {0}
 
 abbrev μ-loop : tie.MeasureT-loop
-μ-loop text b i₀ i = length b - i
+μ-loop text asked b i₀ i = length b - i
 
 label-requires : tie.Need-label-requires Inv-loop μ-loop
 label-requires c κs = search needs

@@ -1,9 +1,9 @@
--- `cases::calls::lent` is safe and ends.
+-- `calls::calls::lent` is safe and ends.
 use native.Mathlib.Omega.{arith}
 use lib.ListN.{length-take}
 use borrow.Author.Needs.{needs}
-use Rattle.cases.proofs.calls.lent.Statement.{statement}
-use Rattle.cases.proofs.calls.lent.Tie as tie
+use Rattle.calls.proofs.calls.lent.Statement.{statement}
+use Rattle.calls.proofs.calls.lent.Tie as tie
 
 returns : tie.Need-returns
 returns c = search needs

@@ -1,9 +1,9 @@
--- `cases::build::sevens` is safe and ends.
+-- `say::build::sevens` is safe and ends.
 use native.Mathlib.Omega.{arith}
 use lib.ListN.{length-take}
 use borrow.Author.Needs.{needs}
-use Rattle.cases.proofs.build.sevens.Statement.{statement}
-use Rattle.cases.proofs.build.sevens.Tie as tie
+use Rattle.say.proofs.build.sevens.Statement.{statement}
+use Rattle.say.proofs.build.sevens.Tie as tie
 
 returns : tie.Need-returns
 returns c = search needs
