@@ -62,7 +62,7 @@ fn written(names: &[u8], k: usize, log: Log, good: bool) -> Log {
     outcome::line(
         names,
         k,
-        writing::write_complete::write_complete(log, &volume, &mut page, &hold, good),
+        completing::write_complete::write_complete(log, &volume, &mut page, &hold, good),
     )
 }
 

@@ -18,8 +18,9 @@ use Rattle.log.specs.Log.{Idle, Append, Log}
 use Rattle.log.specs.Check.{shapeFits, stateFits}
 use Rattle.call.specs.Outcome.{Outcome, Word, ok, busy, fail, wordNumber, orElse}
 use Rattle.call.specs.Gate.{gate, unlessIdle, unlessSet}
-use Rattle.writing.specs.Flush.{flush, flushedPage}
-use Rattle.writing.specs.Append.{fitsPage, unlessLength, unlessSize, unlessRoom, unlessLimit, stored, heldEntry, appendRefusal, appendRuns, appendPage, appendHold, appendChecks, Appends}
+use Rattle.buffering.specs.Flush.{flush, flushedPage}
+use Rattle.buffering.specs.Store.{stored}
+use Rattle.writing.specs.Append.{fitsPage, unlessLength, unlessSize, unlessRoom, unlessLimit, heldEntry, appendRefusal, appendRuns, appendPage, appendHold, appendChecks, Appends}
 use Rattle.call.proofs.Gates.{Passed}
 use Rattle.call.proofs.Checks.{or-none}
 use Rattle.writing.proofs.AppendLaws.{accepted}

@@ -13,10 +13,11 @@ use Rattle.log.specs.Answer.{OK, SIZE, CANCEL, nothing}
 use Rattle.log.specs.Log.{State, Idle, Read, Seek, Append, Sync, Erase, Log}
 use Rattle.call.specs.Outcome.{Outcome, Word, ok, busy, fail, orElse, refusal, unless}
 use Rattle.call.specs.Gate.{gate, unlessSet, unlessDeferred, unlessFree}
-use Rattle.writing.specs.Flush.{flush}
-use Rattle.writing.specs.Append.{fitsPage, stored, appendRuns, appendChecks}
+use Rattle.buffering.specs.Flush.{flush}
+use Rattle.buffering.specs.Store.{stored}
+use Rattle.writing.specs.Append.{fitsPage, appendRuns, appendChecks}
 use Rattle.writing.specs.Sync.{synced, syncRuns}
-use Rattle.writing.specs.WriteComplete.{opensNext, opened, notStored, appendWritten, syncWritten, writeRuns, writeChecks}
+use Rattle.completing.specs.WriteComplete.{opensNext, opened, notStored, appendWritten, syncWritten, writeRuns, writeChecks}
 use Rattle.reading.specs.Read.{canceled, readEntry, readLength, readPlace, found, readRuns, readChecks}
 use Rattle.reading.specs.Seek.{seekRefusal, sought, seek}
 use Rattle.reading.specs.Deferred.{deferred}

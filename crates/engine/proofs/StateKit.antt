@@ -17,8 +17,8 @@ use Rattle.log.specs.Check.{keptFits, stateFits}
 use Rattle.log.proofs.Checks.{StateFits, state-fits, fits-state, offset-in}
 use Rattle.call.specs.Outcome.{Outcome, Word, ok, busy, fail, orElse, unless, inState}
 use Rattle.call.specs.Gate.{gate}
-use Rattle.writing.specs.Flush.{lostPage, movedRead, movedOldest, stateAfter, flush}
-use Rattle.writing.specs.Append.{stored}
+use Rattle.buffering.specs.Flush.{lostPage, movedRead, movedOldest, stateAfter, flush}
+use Rattle.buffering.specs.Store.{stored}
 use Rattle.call.proofs.Gates.{shaped}
 use Rattle.call.proofs.Checks.{or-none}
 

@@ -15,7 +15,7 @@ use Rattle.log.specs.Log.{Idle, Sync, Log}
 use Rattle.log.specs.Check.{shapeFits, stateFits}
 use Rattle.call.specs.Outcome.{Outcome, Word, ok, busy, fail, wordNumber, orElse, refusal, unless, keep}
 use Rattle.call.specs.Gate.{gate, unlessIdle, unlessFree}
-use Rattle.writing.specs.Flush.{flush, flushedPage}
+use Rattle.buffering.specs.Flush.{flush, flushedPage}
 use Rattle.writing.specs.Sync.{synced, syncRuns, syncPage, Syncs}
 use Rattle.call.proofs.Gates.{Passed}
 use Rattle.engine.proofs.RowKit.{Row, WordRow, or-else, test-else, idle-else, set-some, set-else, gate-else, check-shape, check-state, check-rest, unless-row, word-row, keep-old, word-busy, word-fail, word-ok, word-most, test-first, test-next, idle-first, idle-next, never-iff, unless-else}

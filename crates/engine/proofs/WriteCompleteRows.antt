@@ -15,8 +15,8 @@ use Rattle.log.specs.Log.{State, Idle, Read, Seek, Append, Sync, Erase, Log}
 use Rattle.log.specs.Check.{shapeFits, stateFits}
 use Rattle.call.specs.Outcome.{Outcome}
 use Rattle.call.specs.Gate.{gate}
-use Rattle.writing.specs.Append.{stored}
-use Rattle.writing.specs.WriteComplete.{appendWritten, syncWritten, opensNext, opened, notStored, writeRuns, writePage, writeChecks, WriteCompletes}
+use Rattle.buffering.specs.Store.{stored}
+use Rattle.completing.specs.WriteComplete.{appendWritten, syncWritten, opensNext, opened, notStored, writeRuns, writePage, writeChecks, WriteCompletes}
 use Rattle.call.proofs.Gates.{Passed}
 use Rattle.engine.proofs.RowKit.{Row, or-else, writing-some, writing-else, gate-else, check-shape, check-state, check-rest, unless-row, keep-old, BodyRow, body-row, always-iff, keep-new, unless-else}
 

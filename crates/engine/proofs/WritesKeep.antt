@@ -16,10 +16,11 @@ use Rattle.log.proofs.Checks.{StateFits, offset-in}
 use Rattle.log.proofs.Opens.{may-open}
 use Rattle.call.specs.Outcome.{Word, refusal, unless, moved}
 use Rattle.call.specs.Gate.{gate, unlessFree}
-use Rattle.writing.specs.Flush.{flush}
-use Rattle.writing.specs.Append.{fitsPage, appendRefusal, stored, appendRuns, appendChecks}
+use Rattle.buffering.specs.Flush.{flush}
+use Rattle.buffering.specs.Store.{stored}
+use Rattle.writing.specs.Append.{fitsPage, appendRefusal, appendRuns, appendChecks}
 use Rattle.writing.specs.Sync.{synced, syncRuns}
-use Rattle.writing.specs.WriteComplete.{opensNext, opened, notStored, syncDone, appendWritten, opensAfterSync, syncWritten, writeRuns, writeChecks}
+use Rattle.completing.specs.WriteComplete.{opensNext, opened, notStored, syncDone, appendWritten, opensAfterSync, syncWritten, writeRuns, writeChecks}
 use Rattle.call.proofs.Gates.{shaped}
 use Rattle.call.proofs.Checks.{or-none}
 use Rattle.writing.proofs.AppendLaws.{accepted, fits-page}
