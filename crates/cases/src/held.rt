@@ -1,25 +1,18 @@
 // The bytes at a position, the next entry and its length: P = 32, N = 4, the append ID in page 1.
-use crate::build;
-use crate::print;
+ghost use Prim.Native.Nat.{_<_, _≤_};
+ghost use Rattle.page.specs.Sizes.{ceiling};
+ghost use Rattle.page.specs.Held.{Lent};
 use page::held::EntryLength;
 use page::held::Place;
 use page::id::EntryID;
+use say::build;
+use say::print;
 
 // Where reading from an ID goes on, and the length of the entry there.
-fn next<'a>(volume: &'a [u8], buffer: &'a [u8], a: usize, r: usize) {
-    if volume.len() != 128 {
-        return;
-    }
-    if buffer.len() != 32 {
-        return;
-    }
-    if a == 0 {
-        return;
-    }
-    if 1879048192 < r {
-        return;
-    }
-    print::label(b"append ID, read ID, place, length");
+fn next<'a>(volume: &'a [u8], buffer: &'a [u8], a: usize, r: usize)
+    requires { ⌜ Lent 32 (now volume) (now buffer) × (0 < a) × (r ≤ ceiling 4) ⌝ }
+{
+    print::label(b"append ID, read ID, place, length", 0);
     print::number(a);
     print::number(r);
     match page::held::get_next_entry(volume, buffer, 32, EntryID(a), EntryID(r)) {
@@ -35,17 +28,10 @@ fn next<'a>(volume: &'a [u8], buffer: &'a [u8], a: usize, r: usize) {
     print::end();
 }
 
-fn byte<'a>(volume: &'a [u8], buffer: &'a [u8], a: usize, pos: usize) {
-    if volume.len() != 128 {
-        return;
-    }
-    if buffer.len() != 32 {
-        return;
-    }
-    if a == 0 {
-        return;
-    }
-    print::label(b"append ID, position, byte");
+fn byte<'a>(volume: &'a [u8], buffer: &'a [u8], a: usize, pos: usize)
+    requires { ⌜ Lent 32 (now volume) (now buffer) × (0 < a) ⌝ }
+{
+    print::label(b"append ID, position, byte", 0);
     print::number(a);
     print::number(pos);
     let b = page::held::get_byte(volume, buffer, 32, EntryID(a), EntryID(pos));
@@ -53,14 +39,13 @@ fn byte<'a>(volume: &'a [u8], buffer: &'a [u8], a: usize, pos: usize) {
     print::end();
 }
 
-fn bytes<'a>(volume: &'a [u8], buffer: &'a [u8]) {
+fn looks<'a>(volume: &'a [u8], buffer: &'a [u8])
+    requires { ⌜ Lent 32 (now volume) (now buffer) ⌝ }
+{
     byte(volume, buffer, 43, 4);
     byte(volume, buffer, 43, 36);
     byte(volume, buffer, 64, 36);
     byte(volume, buffer, 32, 4);
-}
-
-fn entries<'a>(volume: &'a [u8], buffer: &'a [u8]) {
     next(volume, buffer, 43, 0);
     next(volume, buffer, 43, 4);
     next(volume, buffer, 43, 28);
@@ -74,12 +59,10 @@ fn entries<'a>(volume: &'a [u8], buffer: &'a [u8]) {
 // Page 0 with an entry of 20 on flash; page 1 with entries of 3 and 17 in the buffer.
 pub(crate) fn cases() {
     let mut volume = [255u8; 128];
-    build::slot(&mut volume, 0, 0);
-    build::sevens(&mut volume, 4, 20);
+    build::page(&mut volume, 0, 0, 20);
     let mut buffer = [0u8; 32];
     build::header(&mut buffer, 32);
     let at = build::sevens(&mut buffer, 4, 3);
     build::sevens(&mut buffer, at, 17);
-    bytes(&volume, &buffer);
-    entries(&volume, &buffer);
+    looks(&volume, &buffer);
 }

@@ -1,14 +1,14 @@
 // Pages, offsets, slots, rounding up, and the overwritten page, at P = 32 and N = 4.
-use crate::print;
 use page::id::EntryID;
 use page::id::PageNumber;
+use say::print;
 
 fn ids(id: usize) {
     if 1879048192 < id {
         return;
     }
     let k = page::id::page_number(EntryID(id), 32);
-    print::label(b"id, page, offset, slot, rounded up");
+    print::label(b"id, page, offset, slot, rounded up", 0);
     print::number(id);
     print::number(k.0);
     print::number(page::id::page_offset(EntryID(id), 32));
@@ -22,7 +22,7 @@ fn overwritten(k: usize) {
     if 58720255 < k {
         return;
     }
-    print::label(b"page, overwritten page");
+    print::label(b"page, overwritten page", 0);
     print::number(k);
     let over = page::flush::overwritten_page(PageNumber(k), 32, 128);
     print::number(over.0);

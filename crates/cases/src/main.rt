@@ -1,12 +1,7 @@
-// Document 01's cases and their neighbours, run and written out: a line each, held to the file stdout.
-mod build;
-mod calls;
+// Document 01's cases of the page layer, restart and survey, and their neighbours, run and written out: a line each, held to the file stdout.
 mod header;
 mod held;
 mod id;
-mod limits;
-mod outcome;
-mod print;
 mod restart;
 mod survey;
 mod walk;
@@ -18,6 +13,4 @@ fn main() {
     held::cases();
     restart::cases();
     survey::cases();
-    calls::cases();
-    limits::cases();
 }

@@ -1,67 +1,79 @@
-// Walks of pages of 32 bytes.
-use crate::build;
-use crate::print;
+// Walks of pages of 32 bytes. `names` has a line for each.
+use say::build;
+use say::print;
 
-fn walk(text: &[u8], page: &[u8]) {
-    print::line(text, page::walk::walk(page));
+fn walk(names: &[u8], k: usize, page: &[u8]) {
+    print::line(names, k, page::walk::walk(page));
 }
 
 // A page whose bytes are all the same.
-fn uniform(text: &[u8], byte: u8) {
+fn uniform(names: &[u8], k: usize, byte: u8) {
     let page = [byte; 32];
-    walk(text, &page);
+    walk(names, k, &page);
 }
 
-// A page with one entry, and one with a second.
-fn one(text: &[u8], n: usize) {
-    let mut page = [0u8; 32];
-    build::sevens(&mut page, 4, n);
-    walk(text, &page);
-}
-
-fn two(text: &[u8], n: usize, m: usize) {
+// A page with one entry, and a second one unless its length is 0.
+fn entries(names: &[u8], k: usize, n: usize, m: usize) {
     let mut page = [0u8; 32];
     let at = build::sevens(&mut page, 4, n);
     build::sevens(&mut page, at, m);
-    walk(text, &page);
+    walk(names, k, &page);
 }
 
 // A page with one entry and its tail padded.
-fn padded(text: &[u8], n: usize) {
+fn padded(names: &[u8], k: usize, n: usize) {
     let mut page = [0u8; 32];
     let at = build::sevens(&mut page, 4, n);
     page::store::pad(&mut page, at);
-    walk(text, &page);
-    print::bytes(b"that page", &page);
+    walk(names, k, &page);
+    print::bytes(b"that page", 0, &page);
 }
 
 // An entry of 3 bytes, then a length word.
-fn then(text: &[u8], word: u32) {
+fn then(names: &[u8], k: usize, word: u32) {
     let mut page = [255u8; 32];
     let at = build::sevens(&mut page, 4, 3);
     build::word(&mut page, at, word);
-    walk(text, &page);
+    walk(names, k, &page);
 }
 
 // An entry that ends where no length word fits.
-fn near_the_end(text: &[u8]) {
+fn near_the_end(names: &[u8], k: usize) {
     let mut page = [1u8; 32];
     build::word(&mut page, 4, 22);
-    walk(text, &page);
+    walk(names, k, &page);
+}
+
+fn walks(names: &[u8]) {
+    entries(names, 0, 24, 0);
+    entries(names, 1, 5, 15);
+    padded(names, 2, 20);
+    uniform(names, 3, 0);
+    uniform(names, 4, 255);
+    then(names, 5, 4294967295);
+    then(names, 6, 0);
+    then(names, 7, 18);
+    then(names, 8, 17);
+    then(names, 9, 4294967284);
+    then(names, 10, 256);
+    near_the_end(names, 11);
+    walk(names, 12, &[1, 1, 1]);
 }
 
 pub(crate) fn cases() {
-    one(b"walk of 24", 24);
-    two(b"walk of 5, then 15", 5, 15);
-    padded(b"walk of 20, padded by 4", 20);
-    uniform(b"walk of zeros", 0);
-    uniform(b"walk of an erased page", 255);
-    then(b"walk of 3, then padding", 4294967295);
-    then(b"walk of 3, then a zero", 0);
-    then(b"walk of 3, then one byte too long", 18);
-    then(b"walk of 3, then to the end", 17);
-    then(b"walk of 3, then a length that would wrap", 4294967284);
-    then(b"walk of 3, then a length of 256", 256);
-    near_the_end(b"walk to where no length word fits");
-    walk(b"walk of 3 bytes", &[1, 1, 1]);
+    walks(
+        b"walk of 24
+walk of 5, then 15
+walk of 20, padded by 4
+walk of zeros
+walk of an erased page
+walk of 3, then padding
+walk of 3, then a zero
+walk of 3, then one byte too long
+walk of 3, then to the end
+walk of 3, then a length that would wrap
+walk of 3, then a length of 256
+walk to where no length word fits
+walk of 3 bytes",
+    );
 }

@@ -2,10 +2,9 @@
 use Prim.Native.Nat.{ℕ}
 use mathlib.Core.Path.{_≡_, refl}
 use mathlib.Core.Bool.{Bool, true, false}
-use mathlib.Core.List.{List, [], _∷_, _++_}
+use mathlib.Core.List.{_++_}
 use lib.ListN.{replicate}
-use Rattle.page.specs.Bytes.{overwrite, filled}
-use Rattle.page.specs.Layout.{encodePage}
+use Rattle.page.specs.Bytes.{filled}
 use Rattle.page.specs.Flush.{overwritten}
 use Rattle.log.specs.Answer.{OK, FAIL, SIZE, nothing, append-done, write}
 use Rattle.log.specs.Answer as answer
@@ -14,12 +13,13 @@ use Rattle.log.specs.Check.{sizesFit, shapeFits, stateFits}
 use Rattle.log.specs.Open.{mayOpen}
 use Rattle.log.specs.Restart.{atRest}
 use Rattle.log.proofs.Cases as restart
-use Rattle.call.specs.Outcome.{Outcome, ok, refusal, unless, keep, moved}
+use Rattle.call.specs.Outcome.{Outcome, ok, refusal, unless, moved}
 use Rattle.call.specs.Gate.{gate, unlessFree}
-use Rattle.writing.specs.Flush.{flushedPage, lostPage, movedRead, movedOldest, flush}
-use Rattle.writing.specs.Append.{fitsPage, appendRefusal, stored, storedPage, appendRuns, appendPage, appendChecks}
+use Rattle.buffering.specs.Flush.{flushedPage, lostPage, movedRead, movedOldest, flush}
+use Rattle.buffering.specs.Store.{stored}
+use Rattle.writing.specs.Append.{fitsPage, appendRefusal, appendRuns, appendChecks}
 use Rattle.writing.specs.Sync.{syncRuns}
-use Rattle.writing.specs.WriteComplete.{appendWritten, writeRuns, writeChecks}
+use Rattle.completing.specs.WriteComplete.{appendWritten, writeRuns, writeChecks}
 
 abbrev geometry : Geometry
 geometry = record { p = 32; n = 4; first = 0 }

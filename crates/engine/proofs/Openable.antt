@@ -23,10 +23,11 @@ use Rattle.log.specs.Open.{mayOpen}
 use Rattle.log.specs.Restart.{started, refused, headers, logFrom, restoredLog, restart, Restarts}
 use Rattle.call.specs.Outcome.{Outcome, Word, ok, busy, fail, orElse, refusal, unless}
 use Rattle.call.specs.Gate.{gate, unlessDeferred, unlessSet, unlessFree}
-use Rattle.writing.specs.Flush.{flush}
-use Rattle.writing.specs.Append.{fitsPage, stored, appendRefusal, appendRuns, appendChecks, Appends}
+use Rattle.buffering.specs.Flush.{flush}
+use Rattle.buffering.specs.Store.{stored}
+use Rattle.writing.specs.Append.{fitsPage, appendRefusal, appendRuns, appendChecks, Appends}
 use Rattle.writing.specs.Sync.{synced, syncRuns, Syncs}
-use Rattle.writing.specs.WriteComplete.{opensNext, opened, notStored, appendWritten, syncWritten, writeRuns, writeChecks, WriteCompletes}
+use Rattle.completing.specs.WriteComplete.{opensNext, opened, notStored, appendWritten, syncWritten, writeRuns, writeChecks, WriteCompletes}
 use Rattle.reading.specs.Read.{canceled, readEntry, readLength, readPlace, found, readRuns, readChecks, Reads}
 use Rattle.reading.specs.Seek.{sought, seekRefusal, seek}
 use Rattle.reading.specs.Deferred.{deferred}

@@ -1,9 +1,9 @@
 -- Restart's state satisfies STATE, whatever the volume.
 use Prim.Native.Nat.{ℕ, _+_, _*_, _/_, _%_, _≤_, _<_}
-use mathlib.Core.Path.{_≡_, refl, sym, ap, _∙_}
+use mathlib.Core.Path.{_≡_, refl, sym, _∙_}
 use mathlib.Core.Bool.{Bool, true, false}
 use mathlib.Core.List.{List}
-use mathlib.Core.Logic.{_⊎_, inl, inr}
+use mathlib.Core.Logic.{_⊎_, inr}
 use mathlib.Core.Option.{Option, none, some}
 use native.Mathlib.Nat.{mod-eq-of-lt}
 use native.Mathlib.Omega.{arith}
@@ -20,7 +20,7 @@ use Rattle.log.specs.Answer.{SHAPE}
 use Rattle.log.specs.Log.{Geometry, Log}
 use Rattle.log.specs.Check.{shapeFits, stateFits}
 use Rattle.log.specs.Open.{mayOpen, openedId}
-use Rattle.log.specs.Restart.{Restarted, started, refused, atRest, headers, newestPage, walkedId, opens, recoveredId, logFrom, restoredLog, restart, Newest}
+use Rattle.log.specs.Restart.{started, refused, headers, newestPage, walkedId, opens, recoveredId, logFrom, restoredLog, restart, Newest}
 use Rattle.log.proofs.Checks.{StateFits, fits-state, shape-fits, offset-in}
 use Rattle.log.proofs.Opens.{may-open}
 use Rattle.log.proofs.Restarts.{newest-valid, newest-walked, walked-from, walked-limited, oldest-first, oldest-newest}

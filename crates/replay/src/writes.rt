@@ -61,7 +61,7 @@ fn written(
     out: &mut [u8],
 ) -> World {
     let log = world.log;
-    let given = writing::write_complete::write_complete(log, volume, page, hold, good);
+    let given = completing::write_complete::write_complete(log, volume, page, hold, good);
     run::finish(name, world, given, Driver::OK, page, hold, out)
 }
 

@@ -1,4 +1,2 @@
--- The laws of the calls that write.
+-- The laws of append.
 pub mod AppendLaws
-pub mod CompletionLaws
-pub mod FirstLap

@@ -1,5 +1,3 @@
 -- The calls that write, in the order of document 01's "Log engine".
-pub mod Flush
 pub mod Append
 pub mod Sync
-pub mod WriteComplete

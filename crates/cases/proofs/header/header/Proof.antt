@@ -1,6 +1,4 @@
 -- `cases::header::header` is safe and ends.
-use lib.Dec.{lit≤}
-use mathlib.Core.Path.{refl}
 use native.Mathlib.Omega.{arith}
 use Rattle.cases.proofs.Sizes.{sizes}
 use borrow.Author.Needs.{needs}

@@ -1,0 +1,2 @@
+-- The laws of a flush.
+pub mod FirstLap

@@ -1,0 +1,125 @@
+// An outcome, written out: the answer, the report, the request, the state, O, R, A and the kept length.
+use call::outcome::Outcome;
+use log::answer::Answer;
+use log::answer::Appended;
+use log::answer::Erased;
+use log::answer::Report;
+use log::answer::Request;
+use log::answer::Synced;
+use log::state::Log;
+use log::state::State;
+use say::print;
+
+fn number(answer: Answer) -> usize {
+    match answer {
+        Answer::OK => 0,
+        Answer::FAIL => 1,
+        Answer::BUSY => 2,
+        Answer::RESERVE => 5,
+        Answer::INVAL => 6,
+        Answer::SIZE => 7,
+        Answer::CANCEL => 8,
+        Answer::SHAPE => 20,
+        Answer::STATE => 21,
+        Answer::STRAY => 22,
+        Answer::LIMIT => 23,
+    }
+}
+
+fn appended(result: Appended) -> usize {
+    match result {
+        Appended::OK => 0,
+        Appended::FAIL => 1,
+        Appended::CANCEL => 8,
+    }
+}
+
+fn synced(result: Synced) -> usize {
+    match result {
+        Synced::OK => 0,
+        Synced::FAIL => 1,
+    }
+}
+
+fn erased(result: Erased) -> usize {
+    match result {
+        Erased::OK => 0,
+        Erased::FAIL => 1,
+        Erased::BUSY => 2,
+    }
+}
+
+fn flag(b: bool) -> usize {
+    if b { 1 } else { 0 }
+}
+
+fn append_done(length: usize, lost: bool, result: Appended) {
+    print::word(b"append_done");
+    print::number(length);
+    print::number(flag(lost));
+    print::number(appended(result));
+}
+
+fn done(text: &[u8], result: usize) {
+    print::word(text);
+    print::number(result);
+}
+
+fn read_done(length: usize) {
+    print::word(b"read_done");
+    print::number(length);
+    print::number(0);
+}
+
+fn report(r: Report) {
+    match r {
+        Report::Nothing => print::word(b"-"),
+        Report::AppendDone(length, lost, result) => append_done(length, lost, result),
+        Report::SyncDone(result) => done(b"sync_done", synced(result)),
+        Report::EraseDone(result) => done(b"erase_done", erased(result)),
+        Report::ReadDone(length) => read_done(length),
+        Report::SeekDone => done(b"seek_done", 0),
+    }
+}
+
+fn request(r: Request) {
+    match r {
+        Request::Nothing => print::word(b"-"),
+        Request::Write(page) => done(b"write", page.0),
+        Request::Erase(page) => done(b"erase", page.0),
+    }
+}
+
+fn state(s: State) {
+    match s {
+        State::Idle => print::word(b"idle"),
+        State::Read => print::word(b"read"),
+        State::Seek => print::word(b"seek"),
+        State::Append => print::word(b"append"),
+        State::Sync => print::word(b"sync"),
+        State::Erase => print::word(b"erase"),
+    }
+}
+
+fn log(l: Log) {
+    let s = l.state;
+    state(s);
+    print::number(l.oldest_entry_id.0);
+    print::number(l.read_entry_id.0);
+    print::number(l.append_entry_id.0);
+    print::number(l.length);
+}
+
+pub(crate) fn line(names: &[u8], k: usize, o: Outcome) -> Log {
+    print::label(names, k);
+    let answer = o.answer;
+    print::number(number(answer));
+    let r = o.report;
+    report(r);
+    let q = o.request;
+    request(q);
+    let l = o.log;
+    log(l);
+    print::end();
+    l
+}

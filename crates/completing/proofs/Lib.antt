@@ -1,0 +1,2 @@
+-- The laws of a write's completion.
+pub mod CompletionLaws

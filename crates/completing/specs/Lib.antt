@@ -1,0 +1,2 @@
+-- What a write's completion means.
+pub mod WriteComplete

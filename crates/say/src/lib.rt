@@ -1,0 +1,3 @@
+// What the programs of cases share: lines of output, and pages and volumes to run on.
+pub mod build;
+pub mod print;
