@@ -3,3 +3,4 @@ pub mod Slots
 pub mod Invariant
 pub mod BookPages
 pub mod RestartKeeps
+pub mod EntryReads
