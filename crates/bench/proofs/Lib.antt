@@ -4,3 +4,5 @@ pub mod Invariant
 pub mod BookPages
 pub mod RestartKeeps
 pub mod BookSteps
+pub mod EntryReads
+pub mod Quiet
