@@ -6,3 +6,5 @@ pub mod RestartKeeps
 pub mod BookSteps
 pub mod EntryReads
 pub mod Quiet
+pub mod Appends
+pub mod Flushes

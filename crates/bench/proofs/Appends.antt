@@ -1,0 +1,139 @@
+-- An append that is stored, and a flush: what they keep with the power on. The sizes and the mode are the log's own.
+use Prim.Native.Nat.{ℕ, _+_, _*_, _-_, _/_, _%_, _≤_, _<_}
+use mathlib.Core.Path.{_≡_, refl, sym, ap, _∙_, subst}
+use mathlib.Core.Bool.{Bool, true, false}
+use mathlib.Core.List.{List, [], _∷_, _++_}
+use mathlib.Core.Logic.{_⊎_, inl, inr}
+use mathlib.Core.Option.{Option, none, some}
+use native.Mathlib.Omega.{arith}
+use native.Mathlib.Nat.{mod-lt}
+use native.Mathlib.Decide.{ℕ-discrete, decLt}
+use lib.ListN.{length, take}
+use lib.Dec.{eqb}
+use borrow.Author.Tests.{eq-eqb, ne-eqb}
+use Rattle.page.specs.Pick.{pick}
+use Rattle.page.specs.Sizes.{Sizes, ceiling}
+use Rattle.page.specs.Id.{pageOf, offsetOf, slotOf, firstId}
+use Rattle.page.specs.Bytes.{overwrite, padded}
+use Rattle.page.specs.Flush.{overwritten}
+use Rattle.page.specs.Layout.{encode, entriesLength, pageLength, encodePage, wholePage, Good}
+use Rattle.page.proofs.Kit.{Facts, facts, page-of, rest-of, overwritten-lap, overwritten-none}
+use Rattle.page.proofs.Overwrites.{length-overwrite}
+use Rattle.page.proofs.Pages.{length-encode, entriesLength-append, begins-entry, begins-padded, begins-whole, length-wholePage}
+use Rattle.log.specs.Log.{Geometry, State, Idle, Log}
+use Rattle.log.specs.Check.{stateFits}
+use Rattle.log.proofs.Checks.{StateFits, state-fits}
+use Rattle.call.specs.Outcome.{Word, ok, busy, fail}
+use Rattle.buffering.specs.Flush.{lastPage, flushedPage, lostPage, movedOldest}
+use Rattle.buffering.specs.Store.{stored, storedPage}
+use Rattle.writing.specs.Append.{fitsPage}
+use Rattle.writing.proofs.AppendLaws.{fits-page}
+use Rattle.bench.specs.Flash.{Operation, nothing, writing, erasing}
+use Rattle.bench.specs.World.{World}
+use Rattle.bench.specs.Book.{Page, Book, withOpen, joined}
+use Rattle.bench.proofs.Invariant.{Has, Books, Writes, Under, Running}
+use Rattle.bench.proofs.BookSteps.{allowed-first, not-nil}
+use Rattle.bench.proofs.Quiet.{Rests, under-nothing, under-rests, idle-rests}
+
+-- how long a page is with one entry more
+pub longer : (w : ℕ) (es : List (List ℕ)) (e : List ℕ) → pageLength w (es ++ (e ∷ [])) ≡ pageLength w es + w + length e
+longer w es e = omega (arith, entriesLength-append w es (e ∷ []))
+
+-- a page with an entry is longer than its header
+pub some-length : (w : ℕ) (es : List (List ℕ)) → 0 < w → (es ≡ [] → ⊥) → w < pageLength w es
+some-length w [] z h = absurd (h refl)
+some-length w (e ∷ es) z h = omega arith
+
+-- a world at rest with these sizes
+module _ {w : ℕ} {x : World} {b : Book} (bk : Books w (x .log .geometry) (x .log .circular) (x .volume) b) (r : Running w (x .log .geometry) (x .log .circular) x b) where
+  abbrev p : ℕ
+  p = x .log .geometry .p
+
+  abbrev n : ℕ
+  n = x .log .geometry .n
+
+  abbrev es : List (List ℕ)
+  es = b .open-page .entries
+
+  f : Facts w p n
+  f = facts (bk .sizes)
+
+  -- A's offset is the length of the open page, which isn't full
+  pub offset-open : pageLength w es < p → offsetOf p (x .log .append) ≡ pageLength w es
+  offset-open h = rest-of (b .open-page .number) h (r .appends)
+
+  -- the last byte's page is the open page, and its offset the last of the page's bytes
+  last-byte : x .log .append - 1 ≡ b .open-page .number * p + (pageLength w es - 1)
+  last-byte = omega (arith, r .appends, f .word)
+
+  last-below : pageLength w es - 1 < p
+  last-below = omega (arith, bk .open-fits, f .word)
+
+  pub last-open : lastPage (x .log) ≡ b .open-page .number
+  last-open = page-of (b .open-page .number) last-below last-byte
+
+  last-offset : offsetOf p (x .log .append - 1) + 1 ≡ pageLength w es
+  last-offset = omega (arith, rest-of (b .open-page .number) last-below last-byte, f .word)
+
+  -- a flush makes the page buffer the whole open page
+  pub flushed-whole : flushedPage (x .log) (x .page) ≡ wholePage w p (b .open-page .number) es
+  unfolding flushedPage
+  flushed-whole = ap (padded (x .page)) last-offset ∙ begins-padded w p (b .open-page .number) (x .page) es (r .begins) (r .page-length)
+
+  -- an entry that fits in the page
+  module _ (e : List ℕ) (fits : fitsPage w (x .log) (length e) ≡ true) where
+    room : (0 < x .log .append % p) × (length e + w ≤ p - x .log .append % p)
+    room = fits-page w (x .log) (length e) fits
+
+    partly : pageLength w es < p
+    partly = go (decLt (pageLength w es) p)
+      where
+        go : Dec (pageLength w es < p) → pageLength w es < p
+        go (yes h) = h
+        go (no h) =
+            let full : x .log .append ≡ (b .open-page .number + 1) * p + 0 = omega (arith, r .appends, bk .open-fits, h) in
+            let zero : x .log .append % p ≡ 0 = rest-of (b .open-page .number + 1) (f .page) full in
+            absurd (omega (arith, room .0))
+
+    -- the page has room for it
+    pub stored-room : pageLength w (es ++ (e ∷ [])) ≤ p
+    stored-room = omega (arith, longer w es e, room .1, offset-open partly, partly)
+
+    stored-at : storedPage w (x .log) (x .page) e ≡ overwrite (x .page) (pageLength w es) (encode w e)
+    unfolding storedPage
+    stored-at = ap (λ (at : ℕ). overwrite (x .page) at (encode w e)) (offset-open partly)
+
+    pub stored-length : length (storedPage w (x .log) (x .page) e) ≡ p
+    stored-length =
+        ap (λ (l : List ℕ). length l) stored-at
+        ∙ length-overwrite (x .page) (pageLength w es) (encode w e) (omega (arith, length-encode w e, stored-room, longer w es e, r .page-length))
+        ∙ r .page-length
+
+    -- it stands at the end of the open page
+    pub stored-begins : take (pageLength w (es ++ (e ∷ []))) (storedPage w (x .log) (x .page) e) ≡ encodePage w p (b .open-page .number) (es ++ (e ∷ []))
+    stored-begins = ap (take (pageLength w (es ++ (e ∷ [])))) stored-at ∙ begins-entry w p (b .open-page .number) (x .page) es e (r .begins)
+
+    -- the world after it
+    pub stored-running : x .log .state ≡ Idle → stateFits w (stored w (x .log) (length e) .log) ≡ true
+        → Running w (x .log .geometry) (x .log .circular)
+        (record { power = true; log = stored w (x .log) (length e) .log; page = storedPage w (x .log) (x .page) e; hold = x .hold; volume = x .volume; operation = x .operation })
+        (withOpen b (joined (b .open-page) e))
+    unfolding stored
+    stored-running i s = record {
+      geometry = refl;
+      mode = refl;
+      page-length = stored-length;
+      hold-length = r .hold-length;
+      fits = s;
+      appends = omega (arith, r .appends, longer w es e);
+      begins = stored-begins;
+      oldest-page = r .oldest-page;
+      oldest = r .oldest;
+      oldest-near = r .oldest-near;
+      live = λ m h. alive m (r .live m (record { page = h .page; there = h .there; number = h .number }));
+      under = under-rests (idle-rests refl) (under-nothing (idle-rests i) (r .under));
+    }
+      where
+        alive : (m : ℕ) → (r .oldest-page ≤ m) ⊎ ((m + n ≡ b .open-page .number) × (es ≡ [] → ⊥)) → (r .oldest-page ≤ m) ⊎ ((m + n ≡ b .open-page .number) × (es ++ (e ∷ []) ≡ [] → ⊥))
+        alive m (inl h) = inl h
+        alive m (inr h) = inr (h .0, not-nil es e)
