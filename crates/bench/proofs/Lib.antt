@@ -8,3 +8,4 @@ pub mod EntryReads
 pub mod Quiet
 pub mod Appends
 pub mod Flushes
+pub mod AppendStep
