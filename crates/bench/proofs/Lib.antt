@@ -4,3 +4,4 @@ pub mod Invariant
 pub mod BookPages
 pub mod RestartKeeps
 pub mod EntryReads
+pub mod PageReads
