@@ -5,3 +5,4 @@ pub mod BookPages
 pub mod RestartKeeps
 pub mod EntryReads
 pub mod PageReads
+pub mod Reading
