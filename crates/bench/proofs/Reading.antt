@@ -31,7 +31,7 @@ use Rattle.log.proofs.Checks.{state-fits}
 use Rattle.bench.specs.Flash.{blank}
 use Rattle.bench.specs.World.{World}
 use Rattle.bench.specs.Book.{Page, Book, pages, least}
-use Rattle.bench.specs.Promise.{bookOldest, ofPage, andThen, entriesFrom, entriesAt, bookEntries, ReadsOn}
+use Rattle.bench.specs.Promise.{oldestFound, bookOldest, ofPage, andThen, entriesFrom, entriesAt, bookEntries, ReadsOn}
 use Rattle.bench.proofs.Invariant.{Holds, Has, Books, Running}
 use Rattle.bench.proofs.BookPages.{Bottom, Survey, empty, found, one-page, no-page, survey}
 use Rattle.bench.proofs.RestartKeeps.{has-slot, holds, has-none}
@@ -168,3 +168,149 @@ module _ {w : ℕ} {g : Geometry} {circular : Bool} {volume page hold : List ℕ
         fits = has-holds (b .open-page .number) h .fits;
         below = rw e (omega (arith, ends-at));
       }
+
+  -- from a place at a page's first entry on, its entries are read, and then what follows it
+  page-read : {m : ℕ} {ms : List (List ℕ)} → Paged w (g .p) a volume page m ms → (ms ≡ [] → ⊥) → (r kept : ℕ) → r ≤ a → kept ≤ g .p - 2 * w
+      → place w (g .p) a volume page r ≡ m * g .p + pageLength w [] → {es : List (List ℕ)}
+      → ((k : ℕ) → k ≤ g .p - 2 * w → From (m * g .p + pageLength w ms) k es) → From r kept (ms ++ es)
+  page-read {m} {ms} v filled r kept h k at {es} on = go ms refl
+    where
+      go : (xs : List (List ℕ)) → ms ≡ xs → From r kept (xs ++ es)
+      go [] e = absurd (filled e)
+      go (x ∷ xs) e = entries-read (bk .sizes .page) circular append-client q v [] x xs r kept e h k at on
+
+  -- past the open page there is nothing
+  past-open : (more : ℕ) (h : Has g b (b .open-page .number)) (kept : ℕ) → kept ≤ g .p - 2 * w
+      → From (b .open-page .number * g .p + pageLength w (h .page .entries)) kept (entriesFrom (g .n) (b .slots) more (b .open-page .number + 1))
+  past-open more h kept k =
+      let r : ℕ = b .open-page .number * g .p + pageLength w (h .page .entries) in
+      let at : r ≡ a = ap (λ x. b .open-page .number * g .p + pageLength w x) (open-is h) ∙ sym ends-at in
+      let none-next : Has g b (b .open-page .number + 1) → ⊥ = λ x. omega (arith, bk .near (b .open-page .number + 1) x .0) in
+      let past : a ≤ place w (g .p) a volume page r = omega (arith, at, place-from w (g .p) a volume page r (f .page)) in
+      rw (entries-none g b more (b .open-page .number + 1) none-next)
+      (reads-end circular append-client q (omega (arith, at)) k (next-ends w (g .p) a volume page r past))
+
+  -- past a page before it comes the next, if the book has it
+  past-old : (more m : ℕ) (h : Has g b m) → m < b .open-page .number
+      → (Has g b (m + 1) → (r kept : ℕ) → r ≤ a → kept ≤ g .p - 2 * w → place w (g .p) a volume page r ≡ (m + 1) * g .p + pageLength w []
+        → From r kept (entriesFrom (g .n) (b .slots) more (m + 1)))
+      → (kept : ℕ) → kept ≤ g .p - 2 * w → From (m * g .p + pageLength w (h .page .entries)) kept (entriesFrom (g .n) (b .slots) more (m + 1))
+  past-old more m h l next kept k = go (has? g b (m + 1))
+    where
+      r : ℕ
+      r = m * g .p + pageLength w (h .page .entries)
+
+      at : place w (g .p) a volume page r ≡ (m + 1) * g .p + w
+      at = whole-ends (h .page .entries) (bk .sizes) (subst (Shows (g .p) a volume page m) (has-bytes m h) (shows-old m l)) (has-holds m h .fits)
+
+      below : r ≤ a
+      below = old-page m h l .below
+
+      stop : (Has g b (m + 1) → ⊥) → Dec (m + 1 < b .open-page .number) → From r kept []
+      stop d (yes u) = hole (bk .gaps m h (m + 1) (omega arith) u)
+        where
+          hole : Has g b (m + 1) ⊎ (slotBytes (g .p) (slotOf (g .n) (m + 1)) volume ≡ blank (g .p)) → From r kept []
+          hole (inl x) = absurd (d x)
+          hole (inr x) =
+              let under : (m + 1) * g .p + w < a = omega (arith, f, old-below (m + 1) u) in
+              reads-broken circular append-client q below k (next-gives w (g .p) a volume page r at under)
+              (blank-length (bk .sizes) (subst (Shows (g .p) a volume page (m + 1)) x (shows-old (m + 1) u)))
+      stop d (no u) =
+          let i : m + 1 ≡ b .open-page .number = omega arith in
+          let e : b .open-page .entries ≡ [] = open-none (λ x. d (subst (Has g b) (sym i) x)) in
+          let end : a ≡ b .open-page .number * g .p + (w + 0) = ends-at ∙ ap (λ x. b .open-page .number * g .p + pageLength w x) e in
+          let past : a ≤ place w (g .p) a volume page r = omega (arith, at, end, ap (λ x. x * g .p) i) in
+          reads-end circular append-client q below k (next-ends w (g .p) a volume page r past)
+
+      go : Has g b (m + 1) ⊎ (Has g b (m + 1) → ⊥) → From r kept (entriesFrom (g .n) (b .slots) more (m + 1))
+      go (inl x) = next x r kept below k (at ∙ omega arith)
+      go (inr d) = rw (entries-none g b more (m + 1) d) (stop d (decLt (m + 1) (b .open-page .number)))
+
+  -- a page that the book has, and what follows it
+  has-read : (more m : ℕ) (h : Has g b m)
+      → (Has g b (m + 1) → (r kept : ℕ) → r ≤ a → kept ≤ g .p - 2 * w → place w (g .p) a volume page r ≡ (m + 1) * g .p + pageLength w []
+        → From r kept (entriesFrom (g .n) (b .slots) more (m + 1)))
+      → (r kept : ℕ) → r ≤ a → kept ≤ g .p - 2 * w → place w (g .p) a volume page r ≡ m * g .p + pageLength w []
+      → From r kept (entriesFrom (g .n) (b .slots) (suc more) m)
+  has-read more m h next r kept u k at = rw (entries-has g b more m h) (go (decLt m (b .open-page .number)))
+    where
+      open-read : (j : ℕ) → j ≡ b .open-page .number → (y : Has g b j) → place w (g .p) a volume page r ≡ j * g .p + pageLength w []
+          → From r kept (y .page .entries ++ entriesFrom (g .n) (b .slots) more (j + 1))
+      open-read j e = rw e (λ y at'. page-read (open-paged y) (has-holds (b .open-page .number) y .some-entry) r kept u k at' (past-open more y))
+
+      go : Dec (m < b .open-page .number) → From r kept (h .page .entries ++ entriesFrom (g .n) (b .slots) more (m + 1))
+      go (yes l) = page-read (old-page m h l) (has-holds m h .some-entry) r kept u k at (past-old more m h l next)
+      go (no l) = open-read m (omega (arith, l, bk .near m h .0)) h at
+
+  -- page after page, while the book has them: no more than so many
+  pages-read : (more m : ℕ) (h : Has g b m) → ((j : ℕ) → Has g b j → j < m + suc more) → (r kept : ℕ) → r ≤ a → kept ≤ g .p - 2 * w
+      → place w (g .p) a volume page r ≡ m * g .p + pageLength w [] → From r kept (entriesFrom (g .n) (b .slots) (suc more) m)
+  pages-read zero m h reach r kept u k at = has-read zero m h (λ x. absurd (omega (arith, reach (m + 1) x))) r kept u k at
+  pages-read (suc more) m h reach r kept u k at =
+      has-read (suc more) m h (λ x. pages-read more (m + 1) x (λ j y. omega (arith, reach j y))) r kept u k at
+
+  -- no page of the book is N pages or more after another
+  has-near : (m j : ℕ) → Has g b m → Has g b j → j < m + g .n
+  has-near m j h y = go (decLt j (m + g .n))
+    where
+      go : Dec (j < m + g .n) → j < m + g .n
+      go (yes l) = l
+      go (no l) =
+          let i : j ≡ m + g .n = omega (arith, bk .near j y .0, bk .near m h .1) in
+          let s : slotOf (g .n) j ≡ slotOf (g .n) m = ap (slotOf (g .n)) i ∙ add-mod-right m (g .n) in
+          let n = ap (λ (x : Page). x .number) (one-page (h .there) (ap (b .slots) (sym s) ∙ y .there)) in
+          absurd (omega (arith, n, h .number, y .number, f .count))
+
+  -- a page that the book has is found at its first entry
+  has-place : (m : ℕ) → Has g b m → place w (g .p) a volume page (m * g .p + w) ≡ m * g .p + pageLength w []
+  has-place m h = go (decLt m (b .open-page .number))
+    where
+      first : {j : ℕ} {ms : List (List ℕ)} → Paged w (g .p) a volume page j ms → (ms ≡ [] → ⊥) → place w (g .p) a volume page (j * g .p + w) ≡ j * g .p + pageLength w []
+      first {j} {ms} v filled = of ms refl
+        where
+          of : (xs : List (List ℕ)) → ms ≡ xs → place w (g .p) a volume page (j * g .p + w) ≡ j * g .p + pageLength w []
+          of [] e = absurd (filled e)
+          of (x ∷ xs) e =
+              let i : j * g .p + w ≡ j * g .p + pageLength w [] = omega arith in
+              ap (place w (g .p) a volume page) i ∙ its-place (bk .sizes .page) v [] x xs e
+
+      open-first : (j : ℕ) → j ≡ b .open-page .number → Has g b j → place w (g .p) a volume page (j * g .p + w) ≡ j * g .p + pageLength w []
+      open-first j e = rw e (λ y. first (open-paged y) (has-holds (b .open-page .number) y .some-entry))
+
+      go : Dec (m < b .open-page .number) → place w (g .p) a volume page (m * g .p + w) ≡ m * g .p + pageLength w []
+      go (yes l) = first (old-page m h l) (has-holds m h .some-entry)
+      go (no l) = open-first m (omega (arith, l, bk .near m h .0)) h
+
+  -- from the oldest ID on the book's entries are read
+  pub book-read : (kept : ℕ) → kept ≤ g .p - 2 * w → o ≡ bookOldest w g b → (least (pages (g .n) (b .slots)) ≡ none → b .open-page .number ≡ 0)
+      → From o kept (bookEntries g b)
+  book-read kept k at zero-page = go refl at (survey g volume (b .slots) (bk .sizes) (bk .slots) (g .n) (omega arith))
+    where
+      go : {x : Option Extent} {l : Option ℕ} {y : Option Page} → least (pages (g .n) (b .slots)) ≡ l → o ≡ oldestFound w (g .p) l → Survey (g .p) (b .slots) (g .n) x l y
+          → From o kept (entriesAt (g .n) (b .slots) l)
+      go low i (empty e) =
+          let z : b .open-page .number ≡ 0 = zero-page low in
+          let es : b .open-page .entries ≡ [] = open-none (has-none bk e (b .open-page .number)) in
+          let end : a ≡ b .open-page .number * g .p + (w + 0) = ends-at ∙ ap (λ x. b .open-page .number * g .p + pageLength w x) es in
+          let same : o ≡ a = omega (arith, i, end, ap (λ x. x * g .p) z) in
+          reads-end circular append-client q (omega arith) k (next-ends w (g .p) a volume page o (omega (arith, same, place-from w (g .p) a volume page o (f .page))))
+      go low i (found {a = m} el eg bot top) =
+          let h : Has g b m = subst (Has g b) (bot .number) (has-slot bk (bot .slot) (bot .page) (bot .below) (bot .is)) in
+          let n : g .n ≡ suc (g .n - 1) = omega (arith, f .count) in
+          let on = pages-read (g .n - 1) m h (λ j y. omega (arith, n, has-near m j h y)) o kept (q .ordered) k (ap (place w (g .p) a volume page) i ∙ has-place m h) in
+          subst (λ x. From o kept (entriesFrom (g .n) (b .slots) x m)) (sym n) on
+
+-- a log at rest, by its parts
+log-at : (l : Log) {g : Geometry} → l .geometry ≡ g → l .state ≡ Idle → l .read-client ≡ true
+    → logAt g (l .circular) (l .append-client) (l .oldest) (l .append) Idle (l .read) (l .kept) ≡ l
+log-at l e s c = λ i. record {
+  geometry = sym e i;
+  circular = l .circular;
+  read-client = sym c i;
+  append-client = l .append-client;
+  state = sym s i;
+  oldest = l .oldest;
+  read = l .read;
+  append = l .append;
+  kept = l .kept;
+}
