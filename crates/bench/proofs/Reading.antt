@@ -300,17 +300,43 @@ module _ {w : ℕ} {g : Geometry} {circular : Bool} {volume page hold : List ℕ
           let on = pages-read (g .n - 1) m h (λ j y. omega (arith, n, has-near m j h y)) o kept (q .ordered) k (ap (place w (g .p) a volume page) i ∙ has-place m h) in
           subst (λ x. From o kept (entriesFrom (g .n) (b .slots) x m)) (sym n) on
 
--- a log at rest, by its parts
-log-at : (l : Log) {g : Geometry} → l .geometry ≡ g → l .state ≡ Idle → l .read-client ≡ true
-    → logAt g (l .circular) (l .append-client) (l .oldest) (l .append) Idle (l .read) (l .kept) ≡ l
-log-at l e s c = λ i. record {
+-- a log at rest that is read from its oldest ID, by its parts
+log-at : (l : Log) {g : Geometry} {circular : Bool} → l .geometry ≡ g → l .circular ≡ circular → l .state ≡ Idle → l .read-client ≡ true → l .read ≡ l .oldest
+    → logAt g circular (l .append-client) (l .oldest) (l .append) Idle (l .oldest) (l .kept) ≡ l
+log-at l e m s c r = λ i. record {
   geometry = sym e i;
-  circular = l .circular;
+  circular = sym m i;
   read-client = sym c i;
   append-client = l .append-client;
   state = sym s i;
   oldest = l .oldest;
-  read = l .read;
+  read = sym r i;
   append = l .append;
   kept = l .kept;
 }
+
+-- reading on from the oldest ID gives exactly the book's entries
+pub reads-on : {w : ℕ} {g : Geometry} {circular : Bool} (x : World) (b : Book)
+    → Books w g circular (x .volume) b → Running w g circular x b
+    → x .log .state ≡ Idle → x .log .read-client ≡ true
+    → x .log .read ≡ x .log .oldest → x .log .oldest ≡ bookOldest w g b
+    → ((h : Has g b (b .open-page .number)) → h .page .entries ≡ b .open-page .entries)
+    → ((Has g b (b .open-page .number) → ⊥) → b .open-page .entries ≡ [])
+    → (least (pages (g .n) (b .slots)) ≡ none → b .open-page .number ≡ 0)
+    → ReadsOn w (x .volume) (x .page) (x .hold) (x .log) (bookEntries g b)
+reads-on {w} {g} {circular} x b bk rn idle client read oldest open-is open-none open-zero =
+    let l : Log = x .log in
+    let e : l .geometry ≡ g = rn .geometry in
+    let t = state-fits w (x .log) (rn .fits) in
+    let q : Reader w g (x .log .oldest) (x .log .append) (x .volume) (x .page) (x .hold) =
+    record {
+      shape = fits-shape g (length (x .volume)) (length (x .page)) (length (x .hold)) (bk .sizes) (bk .first) (bk .whole) (rn .page-length) (rn .hold-length);
+      headed = t .headed;
+      ordered = t .ordered;
+      limited = t .limited;
+      first = subst (λ (y : Geometry). x .log .oldest % y .p ≡ w) e (t .first);
+      offset = subst (λ (y : Geometry). (x .log .append % y .p ≡ 0) ⊎ (w ≤ x .log .append % y .p)) e (t .offset);
+    } in
+    let kept : x .log .kept ≤ g .p - 2 * w = subst (λ (y : Geometry). x .log .kept ≤ y .p - 2 * w) e (t .kept-most) in
+    subst (λ (y : Log). ReadsOn w (x .volume) (x .page) (x .hold) y (bookEntries g b)) (log-at (x .log) e (rn .mode) idle client read)
+    (book-read (x .log .append-client) bk q (rn .page-length) (rn .appends) (rn .begins) open-is open-none (x .log .kept) kept oldest open-zero)
