@@ -12,13 +12,13 @@ use lib.Seq.{length-take-le}
 use lib.Dec.{eqb, ltb, leb}
 use borrow.Author.Tests.{ne-eqb}
 use Rattle.page.specs.Pick.{pick}
-use Rattle.page.specs.Sizes.{Width}
+use Rattle.page.specs.Sizes.{Width, ceiling}
 use Rattle.page.specs.Bytes.{overwrite, padByte}
-use Rattle.page.specs.Id.{slotOf}
+use Rattle.page.specs.Id.{slotOf, roundUp}
 use Rattle.page.specs.Layout.{pageLength, Good}
 use Rattle.page.proofs.Kit.{Facts, facts, rest-of}
 use Rattle.page.proofs.Overwrites.{length-overwrite, overwrite-same}
-use Rattle.log.specs.Answer.{OK, append-done}
+use Rattle.log.specs.Answer.{OK, LIMIT, append-done}
 use Rattle.log.specs.Answer as answer
 use Rattle.log.specs.Log.{Geometry, State, Idle, Read, Seek, Append, Sync, Erase, Log}
 use Rattle.log.specs.Check.{shapeFits, stateFits}
@@ -80,4 +80,4 @@ not-ok-append w l volume page hold room n =
     (not-ok-else (unlessLength n room) _ (not-ok-pick (eqb n 0 || ltb room n) _ _ (λ e. omega arith) tt)
     (not-ok-else (unlessSize w l n) _ (not-ok-pick (ltb (l .geometry .p) (n + 2 * w)) _ _ (λ e. omega arith) tt)
     (not-ok-else (unlessRoom w l n) _ (not-ok-pick (not (l .circular) && ltb (l .geometry .n * l .geometry .p) (l .append + n + w)) _ _ (λ e. omega arith) tt)
-    (not-ok-else (unlessLimit w l n) _ (not-ok-pick _ _ _ (λ e. omega arith) tt) (not-ok-set (l .append-client)))))))
+    (not-ok-else (unlessLimit w l n) _ (not-ok-pick (not (fitsPage w l n) && leb (ceiling w) (roundUp (l .geometry .p) (l .append))) (some LIMIT) none (λ e. omega arith) tt) (not-ok-set (l .append-client)))))))

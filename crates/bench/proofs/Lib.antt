@@ -9,3 +9,5 @@ pub mod Quiet
 pub mod Appends
 pub mod Flushes
 pub mod AppendStep
+pub mod PageReads
+pub mod Reading

@@ -134,15 +134,15 @@ module _ {w : ℕ} {g : Geometry} {circular : Bool} {volume : List ℕ} {b : Boo
           ap (λ (r : Page). b .slots (slotOf (g .n) (r .number))) (sym i) ∙ ap (b .slots) at ∙ e
 
   -- so the book has it
-  has-slot : (s : ℕ) (k : Page) → s < g .n → b .slots s ≡ some k → Has g b (k .number)
+  pub has-slot : (s : ℕ) (k : Page) → s < g .n → b .slots s ≡ some k → Has g b (k .number)
   has-slot s k l e = record { page = k; there = slot-there s k l e; number = refl }
 
   -- what a slot with a page holds
-  holds : (s : ℕ) (k : Page) → s < g .n → b .slots s ≡ some k → Holds w g volume s k
+  pub holds : (s : ℕ) (k : Page) → s < g .n → b .slots s ≡ some k → Holds w g volume s k
   holds s k l e = rw e at (bk .slots s l)
 
   -- where no slot has a page the book has none
-  has-none : ((s : ℕ) → s < g .n → b .slots s ≡ none) → (m : ℕ) → Has g b m → ⊥
+  pub has-none : ((s : ℕ) → s < g .n → b .slots s ≡ none) → (m : ℕ) → Has g b m → ⊥
   has-none e m h = no-page (e (m % g .n) (mod-lt m (f .count))) (h .there)
 
   -- a page that the book has is no newer than the newest
