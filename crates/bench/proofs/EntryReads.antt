@@ -1,22 +1,18 @@
 -- One read of a log that is at rest: an entry, or the end. w is the width of a word, g the sizes; the page buffer is `page`.
-use Prim.Native.Nat.{ℕ, _+_, _*_, _-_, _/_, _%_, _≤_, _<_}
-use mathlib.Core.Path.{_≡_, refl, sym, ap, _∙_, subst}
-use mathlib.Core.Bool.{Bool, true, false}
+use Prim.Native.Nat.{ℕ, _+_, _*_, _-_, _%_, _≤_}
+use mathlib.Core.Path.{_≡_, refl, sym, subst}
+use mathlib.Core.Bool.{Bool, true}
 use mathlib.Core.List.{List, [], _∷_}
-use mathlib.Core.Logic.{_⊎_, inl, inr}
-use mathlib.Core.Option.{Option, none, some}
+use mathlib.Core.Logic.{_⊎_}
+use mathlib.Core.Option.{none, some}
 use native.Mathlib.Omega.{arith}
-use lib.ListN.{length, take}
-use lib.Seq.{take-at}
-use lib.Dec.{ltb, leb, eqb}
-use borrow.Author.Tests.{le-ltb, le-leb, lt-leb, eq-eqb}
-use Rattle.page.specs.Pick.{pick}
+use lib.ListN.{length}
+use borrow.Author.Tests.{le-ltb, le-leb, eq-eqb}
 use Rattle.page.specs.Sizes.{Sizes, ceiling}
-use Rattle.page.specs.Bytes.{overwrite}
 use Rattle.page.specs.Answered.{gives, refuses}
 use Rattle.page.specs.Held.{bytesAt, nextEntry, entryLength}
 use Rattle.page.proofs.Overwrites.{overwrite-same}
-use Rattle.log.specs.Answer.{OK, FAIL}
+use Rattle.log.specs.Answer.{FAIL}
 use Rattle.log.specs.Log.{Geometry, State, Idle, Read, Log}
 use Rattle.log.specs.Check.{sizesFit, shapeFits, keptFits, stateFits}
 use Rattle.log.proofs.Checks.{StateFits, fits-state}
@@ -127,7 +123,7 @@ module _ {w : ℕ} {g : Geometry} (circular append-client : Bool) {o a : ℕ} {v
           let back = rw (passed, early, found, long, fits, content) at (y .filled) in
           record { answer = rw out; log = rw out; entry = rw back (overwrite-same bytes 0 e (omega arith)) }
 
-  -- where no entry is found, or it has no length, the read fails
+  -- where no entry is found the read fails
   pub reads-end : {r kept : ℕ} → r ≤ a → kept ≤ g .p - 2 * w → nextEntry w (g .p) a volume page r ≡ refuses FAIL
       → ReadsOn w volume page hold (logAt g circular append-client o a Idle r kept) []
   unfolding readRuns
@@ -140,6 +136,7 @@ module _ {w : ℕ} {g : Geometry} (circular append-client : Bool) {o a : ℕ} {v
           let out = rw (passed, early, found) at (y .answers) in
           rw out
 
+  -- and where an entry has no length that fits
   pub reads-broken : {r kept id : ℕ} → r ≤ a → kept ≤ g .p - 2 * w → nextEntry w (g .p) a volume page r ≡ gives id → entryLength w (g .p) a volume page id ≡ refuses FAIL
       → ReadsOn w volume page hold (logAt g circular append-client o a Idle r kept) []
   unfolding readRuns

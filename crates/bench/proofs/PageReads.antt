@@ -1,15 +1,14 @@
 -- Reading on through the entries of one page. w is the width of a word, p the page size P, a the append ID A; the page buffer is `page`.
-use Prim.Native.Nat.{ℕ, _+_, _*_, _-_, _/_, _%_, _^_, _≤_, _<_}
+use Prim.Native.Nat.{ℕ, _+_, _*_, _-_, _/_, _%_, _≤_, _<_}
 use mathlib.Core.Path.{_≡_, refl, sym, ap, _∙_, subst}
-use mathlib.Core.Bool.{Bool, true, false, _||_}
+use mathlib.Core.Bool.{Bool, true, false}
 use mathlib.Core.List.{List, [], _∷_, _++_, append-assoc}
-use mathlib.Core.Logic.{_⊎_, inl, inr}
 use native.Mathlib.Omega.{arith}
 use native.Mathlib.Nat.{mod-lt}
 use lib.ListN.{length, getD, take, drop, take-append-drop}
 use lib.Seq.{getD-take, getD-drop, drop-drop}
-use lib.Dec.{ltb, leb, eqb}
-use borrow.Author.Tests.{eqb-false, le-ltb, le-leb, lt-leb, eq-eqb, ne-eqb}
+use lib.Dec.{eqb}
+use borrow.Author.Tests.{le-ltb, le-leb, lt-leb, ne-eqb}
 use Rattle.page.specs.Pick.{pick}
 use Rattle.page.specs.Sizes.{PageSize}
 use Rattle.page.specs.Bytes.{padByte}
@@ -59,14 +58,16 @@ shows-volume p a n volume page m h k l d = record { window = at }
         let whole = rw (take-append-drop p (drop (m % n * p) volume), drop-drop off (m % n * p) volume) at part in
         rw (holder-volume p a volume page (m * p + off) (λ e. d (sym pos ∙ e)), l, slot) whole
 
--- one byte, and one word
+-- what a page shows at an offset
 module _ {p a : ℕ} {volume page : List ℕ} {m : ℕ} {b : List ℕ} (v : Shows p a volume page m b) (off : ℕ) (h : off < p) where
+  -- one byte
   pub shows-byte : byteAt p a volume page (m * p + off) ≡ getD b off 0
   shows-byte =
       let z : off + 0 ≡ off = omega arith in
       sym (first-byteAt p a volume page (m * p + off) 1 (omega arith)) ∙ ap (λ x. getD x 0 0) (v .window off 1 h (omega arith))
       ∙ getD-take 1 (drop off b) 0 0 (omega arith) ∙ getD-drop off b 0 0 ∙ ap (λ i. getD b i 0) z
 
+  -- one word
   pub shows-word : (w : ℕ) → off + w ≤ p → heldWord w p a volume page (m * p + off) ≡ wordAt w b off
   unfolding wordAt
   shows-word w l = ap le (v .window off w h l)
@@ -120,6 +121,7 @@ module _ {w p : ℕ} (s : PageSize w p) {a : ℕ} {volume page : List ℕ} {m : 
       go : (x : List ℕ) → encodePage w p m (before ++ (e ∷ after)) ++ x ≡ encodePage w p m before ++ (encode w e ++ (encodeAll w after ++ x))
       go x = rw (encodeAll-append w before (e ∷ after)) (simp append-assoc)
 
+  -- it is good
   its-good : Good w p e
   its-good = good-at before after (subst (AllGood w p) i (v .good))
 
@@ -197,6 +199,7 @@ module _ {w : ℕ} {g : Geometry} (s : PageSize w (g .p)) (circular append-clien
   abbrev After : List (List ℕ) → Type 0
   After es = (kept : ℕ) → kept ≤ g .p - 2 * w → ReadsOn w volume page hold (logAt g circular append-client o a Idle (m * g .p + pageLength w ms) kept) es
 
+  -- an entry, those after it, and what follows the page
   pub entries-read : (before : List (List ℕ)) (e : List ℕ) (after : List (List ℕ)) (r kept : ℕ) → ms ≡ before ++ (e ∷ after) → r ≤ a → kept ≤ g .p - 2 * w
       → place w (g .p) a volume page r ≡ m * g .p + pageLength w before → {es : List (List ℕ)} → After es
       → ReadsOn w volume page hold (logAt g circular append-client o a Idle r kept) ((e ∷ after) ++ es)

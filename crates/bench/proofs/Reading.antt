@@ -8,15 +8,14 @@ use mathlib.Core.Option.{Option, none, some}
 use native.Mathlib.Omega.{arith}
 use native.Mathlib.Decide.{decLt}
 use native.Mathlib.Nat.{mod-lt, add-mod-right}
-use lib.ListN.{length, getD, take, drop, replicate, length-replicate, replicate-append-replicate}
+use lib.ListN.{length, getD, take, replicate, length-replicate, replicate-append-replicate}
 use lib.Seq.{drop-at, getD-at}
-use lib.Dec.{ltb, eqb}
+use lib.Dec.{eqb}
 use borrow.Author.Tests.{eqb-true, eqb-false, le-ltb, lt-ltb, eq-eqb, ne-eqb}
-use Rattle.page.specs.Pick.{pick}
 use Rattle.page.specs.Sizes.{Sizes}
 use Rattle.page.specs.Id.{slotOf, firstId}
 use Rattle.page.specs.Bytes.{padByte}
-use Rattle.page.specs.Word.{le, wordAt}
+use Rattle.page.specs.Word.{wordAt}
 use Rattle.page.specs.Slots.{slotBytes}
 use Rattle.page.specs.Layout.{pageLength, encodePage, wholePage}
 use Rattle.page.specs.Header.{Extent}
@@ -33,7 +32,7 @@ use Rattle.bench.specs.World.{World}
 use Rattle.bench.specs.Book.{Page, Book, pages, least}
 use Rattle.bench.specs.Promise.{oldestFound, bookOldest, ofPage, andThen, entriesFrom, entriesAt, bookEntries, ReadsOn}
 use Rattle.bench.proofs.Invariant.{Holds, Has, Books, Running}
-use Rattle.bench.proofs.BookPages.{Bottom, Survey, empty, found, one-page, no-page, survey}
+use Rattle.bench.proofs.BookPages.{Survey, empty, found, one-page, no-page, survey}
 use Rattle.bench.proofs.RestartKeeps.{has-slot, holds, has-none}
 use Rattle.bench.proofs.EntryReads.{fits-shape, logAt, Reader, reads-end, reads-broken}
 use Rattle.bench.proofs.PageReads.{Shows, shows-buffer, shows-volume, shows-byte, shows-word, place-from, next-gives, next-ends, Paged, its-place, entries-read}
@@ -119,6 +118,7 @@ module _ {w : ℕ} {g : Geometry} {circular : Bool} {volume page hold : List ℕ
     (begins : take (pageLength w (b .open-page .entries)) page ≡ encodePage w (g .p) (b .open-page .number) (b .open-page .entries))
     (open-is : (h : Has g b (b .open-page .number)) → h .page .entries ≡ b .open-page .entries)
     (open-none : (Has g b (b .open-page .number) → ⊥) → b .open-page .entries ≡ []) where
+  -- what the sizes tell
   f : Facts w (g .p) (g .n)
   f = facts (bk .sizes)
 
@@ -134,6 +134,7 @@ module _ {w : ℕ} {g : Geometry} {circular : Bool} {volume page hold : List ℕ
   has-holds : (m : ℕ) (h : Has g b m) → Holds w g volume (slotOf (g .n) m) (h .page)
   has-holds m h = holds bk (slotOf (g .n) m) (h .page) (mod-lt m (f .count)) (h .there)
 
+  -- these are its bytes
   has-bytes : (m : ℕ) (h : Has g b m) → slotBytes (g .p) (slotOf (g .n) m) volume ≡ wholePage w (g .p) m (h .page .entries)
   has-bytes m h = has-holds m h .bytes ∙ ap (λ i. wholePage w (g .p) i (h .page .entries)) (h .number)
 
@@ -145,6 +146,7 @@ module _ {w : ℕ} {g : Geometry} {circular : Bool} {volume page hold : List ℕ
   old-below : (m : ℕ) → m < b .open-page .number → m * g .p + g .p ≤ a
   old-below m l = omega (arith, ends-at, pages-le {k = m + 1} {j = b .open-page .number} (g .p) (omega arith))
 
+  -- so it is a page that can be read
   old-page : (m : ℕ) (h : Has g b m) → m < b .open-page .number → Paged w (g .p) a volume page m (h .page .entries)
   old-page m h l =
       record {
@@ -193,7 +195,7 @@ module _ {w : ℕ} {g : Geometry} {circular : Bool} {volume page hold : List ℕ
   -- past a page before it comes the next, if the book has it
   past-old : (more m : ℕ) (h : Has g b m) → m < b .open-page .number
       → (Has g b (m + 1) → (r kept : ℕ) → r ≤ a → kept ≤ g .p - 2 * w → place w (g .p) a volume page r ≡ (m + 1) * g .p + pageLength w []
-        → From r kept (entriesFrom (g .n) (b .slots) more (m + 1)))
+      → From r kept (entriesFrom (g .n) (b .slots) more (m + 1)))
       → (kept : ℕ) → kept ≤ g .p - 2 * w → From (m * g .p + pageLength w (h .page .entries)) kept (entriesFrom (g .n) (b .slots) more (m + 1))
   past-old more m h l next kept k = go (has? g b (m + 1))
     where
@@ -229,7 +231,7 @@ module _ {w : ℕ} {g : Geometry} {circular : Bool} {volume page hold : List ℕ
   -- a page that the book has, and what follows it
   has-read : (more m : ℕ) (h : Has g b m)
       → (Has g b (m + 1) → (r kept : ℕ) → r ≤ a → kept ≤ g .p - 2 * w → place w (g .p) a volume page r ≡ (m + 1) * g .p + pageLength w []
-        → From r kept (entriesFrom (g .n) (b .slots) more (m + 1)))
+      → From r kept (entriesFrom (g .n) (b .slots) more (m + 1)))
       → (r kept : ℕ) → r ≤ a → kept ≤ g .p - 2 * w → place w (g .p) a volume page r ≡ m * g .p + pageLength w []
       → From r kept (entriesFrom (g .n) (b .slots) (suc more) m)
   has-read more m h next r kept u k at = rw (entries-has g b more m h) (go (decLt m (b .open-page .number)))
@@ -325,8 +327,7 @@ pub reads-on : {w : ℕ} {g : Geometry} {circular : Bool} (x : World) (b : Book)
     → (least (pages (g .n) (b .slots)) ≡ none → b .open-page .number ≡ 0)
     → ReadsOn w (x .volume) (x .page) (x .hold) (x .log) (bookEntries g b)
 reads-on {w} {g} {circular} x b bk rn idle client read oldest open-is open-none open-zero =
-    let l : Log = x .log in
-    let e : l .geometry ≡ g = rn .geometry in
+    let e : x .log .geometry ≡ g = rn .geometry in
     let t = state-fits w (x .log) (rn .fits) in
     let q : Reader w g (x .log .oldest) (x .log .append) (x .volume) (x .page) (x .hold) =
     record {
