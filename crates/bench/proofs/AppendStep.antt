@@ -15,6 +15,7 @@ use Rattle.page.specs.Pick.{pick}
 use Rattle.page.specs.Sizes.{Width, ceiling}
 use Rattle.page.specs.Bytes.{overwrite, padByte}
 use Rattle.page.specs.Id.{slotOf, roundUp}
+use Rattle.page.specs.Slots.{slotBytes}
 use Rattle.page.specs.Layout.{pageLength, Good}
 use Rattle.page.proofs.Kit.{Facts, facts, rest-of}
 use Rattle.page.proofs.Overwrites.{length-overwrite, overwrite-same}
@@ -31,16 +32,15 @@ use Rattle.writing.specs.Append.{fitsPage, unlessLength, unlessSize, unlessRoom
 use Rattle.writing.proofs.AppendLaws.{Accepted, accepted}
 use Rattle.engine.proofs.WritesKeep.{append-keeps}
 use Rattle.engine.proofs.Openable.{append-may, unfit-page}
-use Rattle.bench.specs.Flash.{Operation, nothing, writing, started}
+use Rattle.bench.specs.Flash.{Operation, nothing, writing, started, blank}
 use Rattle.bench.specs.World.{World, Ended, unended, Heard, heard, Done, appends, Step, delivered}
 use Rattle.bench.specs.Book.{Page, Book, allowed, appended, withOpen, joined}
 use Rattle.bench.specs.Promise.{doneEntry, Clear}
-use Rattle.bench.proofs.Invariant.{Books, Writes, Waits, Under, idle, append, Running, Inv}
+use Rattle.bench.proofs.Invariant.{Has, Books, Writes, Waits, Under, idle, append, Running, Inv}
 use Rattle.bench.proofs.BookSteps.{books-join}
-use Rattle.bench.proofs.RestartKeeps.{may-allowed}
 use Rattle.bench.proofs.Quiet.{withLog, quiet-refusal, running-quiet, no-start, under-nothing, under-rests, idle-rests}
-use Rattle.bench.proofs.Appends.{some-length, stored-room, stored-running, last-open, offset-open}
-use Rattle.bench.proofs.Flushes.{oldest-left, flushed-running, flush-starts, flush-writes}
+use Rattle.bench.proofs.Appends.{stored-room, stored-running, offset-open, may-next}
+use Rattle.bench.proofs.Flushes.{oldest-left, flushedWorld, flushed-running, flush-starts, flush-writes}
 
 -- a refusal is not the answer OK
 abbrev pub NotOK : Option ℕ → Type 0
@@ -81,3 +81,149 @@ not-ok-append w l volume page hold room n =
     (not-ok-else (unlessSize w l n) _ (not-ok-pick (ltb (l .geometry .p) (n + 2 * w)) _ _ (λ e. omega arith) tt)
     (not-ok-else (unlessRoom w l n) _ (not-ok-pick (not (l .circular) && ltb (l .geometry .n * l .geometry .p) (l .append + n + w)) _ _ (λ e. omega arith) tt)
     (not-ok-else (unlessLimit w l n) _ (not-ok-pick (not (fitsPage w l n) && leb (ceiling w) (roundUp (l .geometry .p) (l .append))) (some LIMIT) none (λ e. omega arith) tt) (not-ok-set (l .append-client)))))))
+
+-- an append on a world
+module _ {w : ℕ} (x : World) (b : Book) (bk : Books w (x .log .geometry) (x .log .circular) (x .volume) b) (r : Running w (x .log .geometry) (x .log .circular) x b)
+    (bytes : List ℕ) (n : ℕ) (word : Word) where
+  abbrev g : Geometry
+  g = x .log .geometry
+
+  abbrev e : List ℕ
+  e = take n bytes
+
+  abbrev checks : Option ℕ
+  checks = appendChecks w (x .log) (length (x .volume)) (length (x .page)) (length (x .hold)) (length bytes) n
+
+  -- the call with these checks
+  abbrev doneBy : Option ℕ → Done
+  doneBy c = record {
+    outcome = unless c (x .log) (appendRuns w (x .log) n word);
+    page = keep c (x .page) (appendPage w (x .log) (x .page) e);
+    hold = keep c (x .hold) (appendHold w (x .log) (x .hold) e);
+  }
+
+  abbrev worldBy : Done → World
+  worldBy d = delivered (g .first) x unended d word .world
+
+  abbrev bookBy : Done → Book
+  bookBy d = appended b e (some (d .outcome .answer)) (d .outcome .report)
+
+  f : Facts w (g .p) (g .n)
+  f = facts (bk .sizes)
+
+  -- it was refused
+  refused-keeps : (a : ℕ) → (a ≡ OK → ⊥) → Inv w g (x .log .circular) (worldBy (doneBy (some a))) (bookBy (doneBy (some a)))
+  refused-keeps a d =
+      let same : appended b e (some a) answer.nothing ≡ b = rw (ne-eqb a OK d) in
+      let still : Running w g (x .log .circular) (withLog x (x .log)) b = running-quiet r (refusal (x .log) a) (quiet-refusal (x .log) a) (r .fits) in
+      subst (λ (op : Operation). Inv w g (x .log .circular) (record { power = true; log = x .log; page = x .page; hold = x .hold; volume = x .volume; operation = op }) (appended b e (some a) answer.nothing))
+      (sym (no-start (x .operation) word (g .first)))
+      (subst (Inv w g (x .log .circular) (withLog x (x .log))) (sym same) (record { books = bk; powered = still }))
+
+  -- it passed its checks
+  module _ (pass : checks ≡ none) where
+    refusals : appendRefusal w (x .log) (length bytes) n ≡ none
+    refusals = or-none (gate w (x .log) (length (x .volume)) (length (x .page)) (length (x .hold))) _ pass .1
+
+    ac : Accepted w (x .log) (length bytes) n
+    ac = accepted w (x .log) (length bytes) n refusals
+
+    long : length e ≡ n
+    long = length-take-le n bytes (ac .inside)
+
+    fits : stateFits w (appendRuns w (x .log) n word .log) ≡ true
+    fits = subst (λ (c : Option ℕ). stateFits w (unless c (x .log) (appendRuns w (x .log) n word) .log) ≡ true) pass
+        (append-keeps (bk .sizes .page .width) (x .log) (length (x .volume)) (length (x .page)) (length (x .hold)) (length bytes) n word (r .fits))
+
+    -- it fits in the page
+    stored-keeps : fitsPage w (x .log) n ≡ true → Clear (some e) → stateFits w (stored w (x .log) n .log) ≡ true
+        → Inv w g (x .log .circular) (record { power = true; log = stored w (x .log) n .log; page = storedPage w (x .log) (x .page) e; hold = x .hold; volume = x .volume; operation = x .operation })
+        (withOpen b (joined (b .open-page) e))
+    stored-keeps t clear s =
+        let t' : fitsPage w (x .log) (length e) ≡ true = ap (fitsPage w (x .log)) long ∙ t in
+        let good : Good w (g .p) e = record { some = omega (arith, long, ac .some-bytes); fits = omega (arith, long, ac .size); not-zero = clear .0; not-pad = clear .1 } in
+        subst (λ (m : ℕ). stateFits w (stored w (x .log) m .log) ≡ true
+            → Inv w g (x .log .circular) (record { power = true; log = stored w (x .log) m .log; page = storedPage w (x .log) (x .page) e; hold = x .hold; volume = x .volume; operation = x .operation }) (withOpen b (joined (b .open-page) e)))
+        long
+        (λ s'. record { books = books-join bk e good (stored-room bk r e t'); powered = stored-running bk r e t' (ac .idle) s' })
+        s
+
+    -- it doesn't: the open page has an entry
+    full-some : fitsPage w (x .log) n ≡ false → b .open-page .entries ≡ [] → ⊥
+    full-some u nil =
+        let size : pageLength w (b .open-page .entries) ≡ w = ap (pageLength w) nil ∙ omega arith in
+        let at : x .log .append % g .p ≡ w = offset-open bk r (omega (arith, f .page-words, f .word)) ∙ size in
+        go (unfit-page w (x .log) n u) at
+      where
+        go : (x .log .append % g .p ≡ 0) ⊎ (g .p < x .log .append % g .p + (n + w)) → x .log .append % g .p ≡ w → ⊥
+        go (inl z) at = omega (arith, f .word)
+        go (inr z) at = omega (arith, ac .size)
+
+    -- the data waits in the hold buffer
+    held-length : length (heldEntry (x .hold) e) ≡ g .p
+    held-length = length-overwrite (x .hold) 0 e (omega (arith, long, ac .size, r .hold-length)) ∙ r .hold-length
+
+    -- the book with the data waiting
+    abbrev waitingBook : Book
+    waitingBook = record { slots = b .slots; open-page = b .open-page; waiting = e; erasing = b .erasing }
+
+    waits : fitsPage w (x .log) n ≡ false → Waits w g (x .log .circular) (flushedWorld bk r Append n ok (heldEntry (x .hold) e)) waitingBook
+    unfolding flush
+    waits u = record {
+      kept = sym long;
+      some-byte = omega (arith, long, ac .some-bytes);
+      fits = omega (arith, long, ac .size);
+      held = overwrite-same (x .hold) 0 e (omega arith);
+      next = sym (may-next bk r (full-some u)) ∙ append-may (x .log) (length bytes) n (bk .sizes) refusals u;
+    }
+
+    books-waiting : Books w g (x .log .circular) (x .volume) waitingBook
+    books-waiting = record {
+      sizes = bk .sizes;
+      first = bk .first;
+      whole = bk .whole;
+      open-allowed = bk .open-allowed;
+      open-fits = bk .open-fits;
+      open-good = bk .open-good;
+      slots = bk .slots;
+      near = λ m h. bk .near m (plain m h);
+      gaps = λ m h j l u. again j (bk .gaps m (plain m h) j l u);
+      open-some = λ h. bk .open-some (plain _ h);
+    }
+      where
+        plain : (m : ℕ) → Has g waitingBook m → Has g b m
+        plain m h = record { page = h .page; there = h .there; number = h .number }
+
+        again : (j : ℕ) → Has g b j ⊎ (slotBytes (g .p) (slotOf (g .n) j) (x .volume) ≡ blank (g .p)) → Has g waitingBook j ⊎ (slotBytes (g .p) (slotOf (g .n) j) (x .volume) ≡ blank (g .p))
+        again j (inl h) = inl (record { page = h .page; there = h .there; number = h .number })
+        again j (inr h) = inr h
+
+    -- a flush that the driver accepts
+    accepted-keeps : fitsPage w (x .log) n ≡ false → stateFits w (flush w (x .log) Append n ok .log) ≡ true
+        → Inv w g (x .log .circular) (flushedWorld bk r Append n ok (heldEntry (x .hold) e)) waitingBook
+    unfolding flush
+    accepted-keeps u s = record {
+      books = books-waiting;
+      powered =
+          flushed-running bk r Append n ok (heldEntry (x .hold) e) waitingBook refl refl (full-some u) held-length s
+          (subst (Under w g (x .log .circular) (flushedWorld bk r Append n ok (heldEntry (x .hold) e)) waitingBook (oldest-left bk r .page) Append) (sym (flush-starts bk r Append n))
+          (append (flush-writes bk r Append n ok (heldEntry (x .hold) e) waitingBook refl (full-some u)) (waits u)));
+    }
+
+    -- a flush that the driver refuses
+    refused-flush : (no : Word) → (no ≡ ok → ⊥) → fitsPage w (x .log) n ≡ false → stateFits w (flush w (x .log) Append n no .log) ≡ true
+        → Inv w g (x .log .circular) (flushedWorld bk r Append n no (heldEntry (x .hold) e)) b
+    unfolding flush
+    refused-flush ok d u s = absurd (d refl)
+    refused-flush busy d u s = record {
+      books = bk;
+      powered =
+          flushed-running bk r Append n busy (heldEntry (x .hold) e) b refl refl (full-some u) held-length s
+          (under-rests (idle-rests refl) (under-nothing (idle-rests (ac .idle)) (r .under)));
+    }
+    refused-flush fail d u s = record {
+      books = bk;
+      powered =
+          flushed-running bk r Append n fail (heldEntry (x .hold) e) b refl refl (full-some u) held-length s
+          (under-rests (idle-rests refl) (under-nothing (idle-rests (ac .idle)) (r .under)));
+    }

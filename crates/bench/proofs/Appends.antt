@@ -6,22 +6,23 @@ use mathlib.Core.List.{List, [], _∷_, _++_}
 use mathlib.Core.Logic.{_⊎_, inl, inr}
 use mathlib.Core.Option.{Option, none, some}
 use native.Mathlib.Omega.{arith}
-use native.Mathlib.Nat.{mod-lt}
-use native.Mathlib.Decide.{ℕ-discrete, decLt}
+use native.Mathlib.Nat.{mul-mod-left}
+use native.Mathlib.Decide.{decLt}
 use lib.ListN.{length, take}
-use lib.Dec.{eqb}
-use borrow.Author.Tests.{eq-eqb, ne-eqb}
+use lib.Dec.{ltb, leb}
+use borrow.Author.Tests.{lt-ltb, le-ltb, le-leb, lt-leb}
 use Rattle.page.specs.Pick.{pick}
 use Rattle.page.specs.Sizes.{Sizes, ceiling}
-use Rattle.page.specs.Id.{pageOf, offsetOf, slotOf, firstId}
+use Rattle.page.specs.Id.{offsetOf, firstId, roundUp}
 use Rattle.page.specs.Bytes.{overwrite, padded}
 use Rattle.page.specs.Flush.{overwritten}
 use Rattle.page.specs.Layout.{encode, entriesLength, pageLength, encodePage, wholePage, Good}
-use Rattle.page.proofs.Kit.{Facts, facts, page-of, rest-of, overwritten-lap, overwritten-none}
+use Rattle.page.proofs.Kit.{Facts, facts, page-of, rest-of, full, rounded, round-first, round-next}
 use Rattle.page.proofs.Overwrites.{length-overwrite}
 use Rattle.page.proofs.Pages.{length-encode, entriesLength-append, begins-entry, begins-padded, begins-whole, length-wholePage}
 use Rattle.log.specs.Log.{Geometry, State, Idle, Log}
 use Rattle.log.specs.Check.{stateFits}
+use Rattle.log.specs.Open.{mayOpen}
 use Rattle.log.proofs.Checks.{StateFits, state-fits}
 use Rattle.call.specs.Outcome.{Word, ok, busy, fail}
 use Rattle.buffering.specs.Flush.{lastPage, flushedPage, lostPage, movedOldest}
@@ -30,9 +31,10 @@ use Rattle.writing.specs.Append.{fitsPage}
 use Rattle.writing.proofs.AppendLaws.{fits-page}
 use Rattle.bench.specs.Flash.{Operation, nothing, writing, erasing}
 use Rattle.bench.specs.World.{World}
-use Rattle.bench.specs.Book.{Page, Book, withOpen, joined}
+use Rattle.bench.specs.Book.{Page, Book, allowed, withOpen, joined}
 use Rattle.bench.proofs.Invariant.{Has, Books, Writes, Under, Running}
 use Rattle.bench.proofs.BookSteps.{allowed-first, not-nil}
+use Rattle.bench.proofs.RestartKeeps.{may-allowed}
 use Rattle.bench.proofs.Quiet.{Rests, under-nothing, under-rests, idle-rests}
 
 -- how long a page is with one entry more
@@ -43,6 +45,19 @@ longer w es e = omega (arith, entriesLength-append w es (e ∷ []))
 pub some-length : (w : ℕ) (es : List (List ℕ)) → 0 < w → (es ≡ [] → ⊥) → w < pageLength w es
 some-length w [] z h = absurd (h refl)
 some-length w (e ∷ es) z h = omega arith
+
+-- "A + P > L" depends on A rounded up to P alone
+past-round : (n a : ℕ) {p : ℕ} → 0 < p → ltb (n * p) (a + p) ≡ leb (n * p) (roundUp p a)
+past-round n a {p} h = go (decLt (n * p) (a + p))
+  where
+    go : Dec (n * p < a + p) → ltb (n * p) (a + p) ≡ leb (n * p) (roundUp p a)
+    go (yes l) = lt-ltb (n * p) (a + p) l ∙ sym (le-leb (n * p) (roundUp p a) (full n a h l))
+    go (no l) = le-ltb (n * p) (a + p) (omega (arith, l)) ∙ sym (lt-leb (n * p) (roundUp p a) (omega (arith, l, rounded a h .near)))
+
+-- and so does opening
+pub may-round : (w : ℕ) (g : Geometry) (circular : Bool) (a c : ℕ) → 0 < g .p → roundUp (g .p) a ≡ roundUp (g .p) c → mayOpen w g circular a ≡ mayOpen w g circular c
+unfolding mayOpen
+may-round w g circular a c h e = rw (past-round (g .n) a h, past-round (g .n) c h, e)
 
 -- a world at rest with these sizes
 module _ {w : ℕ} {x : World} {b : Book} (bk : Books w (x .log .geometry) (x .log .circular) (x .volume) b) (r : Running w (x .log .geometry) (x .log .circular) x b) where
@@ -79,6 +94,25 @@ module _ {w : ℕ} {x : World} {b : Book} (bk : Books w (x .log .geometry) (x .l
   pub flushed-whole : flushedPage (x .log) (x .page) ≡ wholePage w p (b .open-page .number) es
   unfolding flushedPage
   flushed-whole = ap (padded (x .page)) last-offset ∙ begins-padded w p (b .open-page .number) (x .page) es (r .begins) (r .page-length)
+
+  -- A rounded up is the next page's first ID, where the open page has an entry
+  pub append-round : (es ≡ [] → ⊥) → roundUp p (x .log .append) ≡ (b .open-page .number + 1) * p
+  append-round some-entry = go (decLt (pageLength w es) p)
+    where
+      go : Dec (pageLength w es < p) → roundUp p (x .log .append) ≡ (b .open-page .number + 1) * p
+      go (yes h) =
+          round-next (x .log .append) (f .page) (omega (arith, offset-open h, some-length w es (omega (arith, f .word)) some-entry))
+          ∙ ap (λ (k : ℕ). (k + 1) * p) (page-of (b .open-page .number) h (r .appends))
+      go (no h) =
+          let full : x .log .append ≡ (b .open-page .number + 1) * p = omega (arith, r .appends, bk .open-fits, h) in
+          ap (roundUp p) full ∙ round-first ((b .open-page .number + 1) * p) (f .page) (mul-mod-left (b .open-page .number + 1) p)
+
+  -- so the next page may be opened where the book's next page is allowed
+  pub may-next : (es ≡ [] → ⊥) → mayOpen w (x .log .geometry) (x .log .circular) (x .log .append) ≡ allowed w (x .log .geometry) (x .log .circular) (b .open-page .number + 1)
+  may-next some-entry =
+      may-round w (x .log .geometry) (x .log .circular) (x .log .append) ((b .open-page .number + 1) * p) (f .page)
+      (append-round some-entry ∙ sym (round-first ((b .open-page .number + 1) * p) (f .page) (mul-mod-left (b .open-page .number + 1) p)))
+      ∙ may-allowed (x .log .geometry) (x .log .circular) (bk .sizes) (b .open-page .number + 1)
 
   -- an entry that fits in the page
   module _ (e : List ℕ) (fits : fitsPage w (x .log) (length e) ≡ true) where
