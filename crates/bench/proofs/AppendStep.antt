@@ -23,7 +23,7 @@ use Rattle.log.specs.Answer.{OK, LIMIT, append-done}
 use Rattle.log.specs.Answer as answer
 use Rattle.log.specs.Log.{Geometry, State, Idle, Read, Seek, Append, Sync, Erase, Log}
 use Rattle.log.specs.Check.{shapeFits, stateFits}
-use Rattle.call.specs.Outcome.{Outcome, Word, ok, busy, fail, orElse, unless, keep, refusal}
+use Rattle.call.specs.Outcome.{Outcome, Word, ok, busy, fail, wordNumber, orElse, unless, keep, refusal}
 use Rattle.call.specs.Gate.{gate, unlessIdle, unlessSet}
 use Rattle.call.proofs.Checks.{or-none}
 use Rattle.buffering.specs.Flush.{flush, flushedPage}
@@ -34,8 +34,9 @@ use Rattle.engine.proofs.WritesKeep.{append-keeps}
 use Rattle.engine.proofs.Openable.{append-may, unfit-page}
 use Rattle.bench.specs.Flash.{Operation, nothing, writing, started, blank}
 use Rattle.bench.specs.World.{World, Ended, unended, Heard, heard, Done, appends, Step, delivered}
-use Rattle.bench.specs.Book.{Page, Book, allowed, appended, withOpen, joined}
-use Rattle.bench.specs.Promise.{doneEntry, Clear}
+use Rattle.bench.specs.Book.{Page, Book, allowed, appended, withOpen, joined, note}
+use Rattle.bench.specs.Event as event
+use Rattle.bench.specs.Promise.{doneEntry, entryOf, Clear}
 use Rattle.bench.proofs.Invariant.{Has, Books, Writes, Waits, Under, idle, append, Running, Inv}
 use Rattle.bench.proofs.BookSteps.{books-join}
 use Rattle.bench.proofs.Quiet.{withLog, quiet-refusal, running-quiet, no-start, under-nothing, under-rests, idle-rests}
@@ -81,6 +82,13 @@ not-ok-append w l volume page hold room n =
     (not-ok-else (unlessSize w l n) _ (not-ok-pick (ltb (l .geometry .p) (n + 2 * w)) _ _ (λ e. omega arith) tt)
     (not-ok-else (unlessRoom w l n) _ (not-ok-pick (not (l .circular) && ltb (l .geometry .n * l .geometry .p) (l .append + n + w)) _ _ (λ e. omega arith) tt)
     (not-ok-else (unlessLimit w l n) _ (not-ok-pick (not (fitsPage w l n) && leb (ceiling w) (roundUp (l .geometry .p) (l .append))) (some LIMIT) none (λ e. omega arith) tt) (not-ok-set (l .append-client)))))))
+
+-- a driver that refuses doesn't accept
+pub busy-not : busy ≡ ok → ⊥
+busy-not e = let z : _≡_ {A = ℕ} 0 2 = ap wordNumber (sym e) in omega arith
+
+pub fail-not : fail ≡ ok → ⊥
+fail-not e = let z : _≡_ {A = ℕ} 0 1 = ap wordNumber (sym e) in omega arith
 
 -- an append on a world
 module _ {w : ℕ} (x : World) (b : Book) (bk : Books w (x .log .geometry) (x .log .circular) (x .volume) b) (r : Running w (x .log .geometry) (x .log .circular) x b)
@@ -227,3 +235,47 @@ module _ {w : ℕ} (x : World) (b : Book) (bk : Books w (x .log .geometry) (x .l
           flushed-running bk r Append n fail (heldEntry (x .hold) e) b refl refl (full-some u) held-length s
           (under-rests (idle-rests refl) (under-nothing (idle-rests (ac .idle)) (r .under)));
     }
+
+    -- the call that passed, with the two tests of whether the entry fits
+    abbrev doneAs : Bool → Bool → Done
+    doneAs t u = record {
+      outcome = pick t (stored w (x .log) n) (flush w (x .log) Append n word);
+      page = pick u (storedPage w (x .log) (x .page) e) (flushedPage (x .log) (x .page));
+      hold = pick u (x .hold) (heldEntry (x .hold) e);
+    }
+
+    passed-keeps : (t : Bool) → fitsPage w (x .log) n ≡ t → Clear (doneEntry (doneAs t t .outcome .report) e) → stateFits w (doneAs t t .outcome .log) ≡ true
+        → Inv w g (x .log .circular) (worldBy (doneAs t t)) (bookBy (doneAs t t))
+    unfolding stored flush
+    passed-keeps true h clear s =
+        subst (λ (op : Operation). Inv w g (x .log .circular)
+            (record { power = true; log = stored w (x .log) n .log; page = storedPage w (x .log) (x .page) e; hold = x .hold; volume = x .volume; operation = op }) (withOpen b (joined (b .open-page) e)))
+        (sym (no-start (x .operation) word (g .first)))
+        (stored-keeps h clear s)
+    passed-keeps false h clear s = by-word word refl s
+      where
+        by-word : (v : Word) → v ≡ word → stateFits w (flush w (x .log) Append n word .log) ≡ true → Inv w g (x .log .circular) (worldBy (doneAs false false)) (bookBy (doneAs false false))
+        by-word ok i s' = subst (λ (v : Word). stateFits w (flush w (x .log) Append n v .log) ≡ true
+            → Inv w g (x .log .circular) (flushedWorld bk r Append n v (heldEntry (x .hold) e)) (appended b e (some (flush w (x .log) Append n v .answer)) answer.nothing)) i (λ a. accepted-keeps h a) s'
+        by-word busy i s' = subst (λ (v : Word). stateFits w (flush w (x .log) Append n v .log) ≡ true
+            → Inv w g (x .log .circular) (flushedWorld bk r Append n v (heldEntry (x .hold) e)) (appended b e (some (flush w (x .log) Append n v .answer)) answer.nothing)) i (λ a. refused-flush busy busy-not h a) s'
+        by-word fail i s' = subst (λ (v : Word). stateFits w (flush w (x .log) Append n v .log) ≡ true
+            → Inv w g (x .log .circular) (flushedWorld bk r Append n v (heldEntry (x .hold) e)) (appended b e (some (flush w (x .log) Append n v .answer)) answer.nothing)) i (λ a. refused-flush fail fail-not h a) s'
+
+    pub accepted-append : Clear (doneEntry (doneBy none .outcome .report) e) → Inv w g (x .log .circular) (worldBy (doneBy none)) (bookBy (doneBy none))
+    unfolding appendRuns appendPage appendHold
+    accepted-append clear =
+        subst (λ (u : Bool). Inv w g (x .log .circular) (worldBy (doneAs (fitsPage w (x .log) n) u)) (bookBy (doneAs (fitsPage w (x .log) n) u))) (ap (fitsPage w (x .log)) (sym long))
+        (passed-keeps (fitsPage w (x .log) n) refl clear fits)
+
+  by-checks : (c : Option ℕ) → checks ≡ c → Clear (doneEntry (doneBy c .outcome .report) e) → Inv w g (x .log .circular) (worldBy (doneBy c)) (bookBy (doneBy c))
+  by-checks none h clear = accepted-append h clear
+  by-checks (some a) h clear =
+      refused-keeps a (subst NotOK h (not-ok-append w (x .log) (length (x .volume)) (length (x .page)) (length (x .hold)) (length bytes) n))
+
+  -- the event append keeps the invariant
+  pub append-step : Clear (entryOf b (event.append bytes n word) (delivered (g .first) x unended (appends w x bytes n word) word .told))
+      → Inv w g (x .log .circular) (delivered (g .first) x unended (appends w x bytes n word) word .world)
+      (note w g (x .log .circular) b (event.append bytes n word) (delivered (g .first) x unended (appends w x bytes n word) word .told))
+  unfolding note
+  append-step clear = by-checks checks refl clear
