@@ -11,3 +11,4 @@ pub mod Flushes
 pub mod AppendStep
 pub mod PageReads
 pub mod Reading
+pub mod CutStep
