@@ -12,3 +12,4 @@ pub mod AppendStep
 pub mod SyncStep
 pub mod PageReads
 pub mod Reading
+pub mod CutStep
