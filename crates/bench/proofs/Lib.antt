@@ -13,3 +13,4 @@ pub mod SyncStep
 pub mod PageReads
 pub mod Reading
 pub mod CutStep
+pub mod RestartStep

@@ -1,5 +1,5 @@
 -- Demand 3: what a restart finds after any list. w is the width of a word, g the sizes, `circular` the mode.
-use Prim.Native.Nat.{ℕ, zero, suc, _+_, _*_, _%_, _≤_}
+use Prim.Native.Nat.{ℕ, zero, suc, _+_, _*_, _%_, _≤_, _<_}
 use mathlib.Core.Path.{_≡_}
 use mathlib.Core.Bool.{Bool, true, false}
 use mathlib.Core.List.{List, [], _∷_, _++_}
@@ -9,6 +9,7 @@ use lib.Dec.{eqb}
 use Rattle.page.specs.Pick.{pick}
 use Rattle.page.specs.Id.{slotOf, firstId}
 use Rattle.page.specs.Bytes.{padByte}
+use Rattle.page.specs.Header.{header}
 use Rattle.page.specs.Layout.{pageLength}
 use Rattle.log.specs.Answer.{OK, FAIL, Report, append-done, sync-done, erase-done, read-done, seek-done}
 use Rattle.log.specs.Answer as answer
@@ -18,7 +19,7 @@ use Rattle.reading.specs.Deferred.{deferred}
 use Rattle.call.specs.Outcome.{Outcome}
 use Rattle.bench.specs.Event as event
 use Rattle.bench.specs.Event.{Event}
-use Rattle.bench.specs.World.{World, Heard, Step, step}
+use Rattle.bench.specs.World.{World, Heard, Step, step, before}
 use Rattle.bench.specs.Book.{Page, Book, emptyBook, pages, least, note}
 
 -- "O = least × P + 4, with an empty book 4"
@@ -113,3 +114,34 @@ Clear (some e) = (length e % 256 ≡ 0 → ⊥) × (length e % 256 ≡ padByte �
 abbrev pub AllClear : ℕ → Geometry → Bool → Bench → List Event → Type 0
 AllClear w g circular s [] = Unit {0}
 AllClear w g circular s (e ∷ es) = Clear (entryOf (s .book) e (step w g circular (s .world) e .told)) × AllClear w g circular (stepped w g circular s e) es
+
+-- "a volume with no valid page header"
+abbrev pub NoHeader : ℕ → Geometry → List ℕ → Type 0
+NoHeader w g volume = (s : ℕ) → s < g .n → header w (g .p) (g .n) volume s ≡ none
+
+-- what a restart that isn't refused finds: "exactly the oldest ID and the append ID that .. the page book gives. Reading on from that oldest ID to the first FAIL gives exactly the book's entries"
+pub record Finds (w : ℕ) (g : Geometry) (s : Bench) : Type 0 where
+  pub oldest : s .world .log .oldest ≡ bookOldest w g (s .book)
+  pub append : s .world .log .append ≡ bookAppend w g (s .book)
+  pub entries : s .world .log .read-client ≡ true → ReadsOn w (s .world .volume) (s .world .page) (s .world .hold) (s .world .log) (bookEntries g (s .book))
+
+-- what is promised of an event, and of every event of a list: each restart that isn't refused finds what the book says
+abbrev pub Promised : ℕ → Geometry → Event → Option ℕ → Bench → Type 0
+Promised w g (event.restart left wipe read-client append-client page hold) a s = a ≡ some OK → Finds w g s
+Promised w g (event.append bytes n word) a s = Unit {0}
+Promised w g (event.read bytes n) a s = Unit {0}
+Promised w g (event.seek id) a s = Unit {0}
+Promised w g (event.sync word) a s = Unit {0}
+Promised w g (event.erase word) a s = Unit {0}
+Promised w g event.deferred a s = Unit {0}
+Promised w g (event.write-complete good left) a s = Unit {0}
+Promised w g (event.erase-complete good left word) a s = Unit {0}
+Promised w g (event.cut left wipe) a s = Unit {0}
+
+abbrev pub AllPromised : ℕ → Geometry → Bool → Bench → List Event → Type 0
+AllPromised w g circular s [] = Unit {0}
+AllPromised w g circular s (e ∷ es) = Promised w g e (step w g circular (s .world) e .told .answer) (stepped w g circular s e) × AllPromised w g circular (stepped w g circular s e) es
+
+-- where a list begins: the power is off, the book is empty
+abbrev pub start : Log → List ℕ → List ℕ → List ℕ → Bench
+start l volume page hold = record { world = before l volume page hold; book = emptyBook }
