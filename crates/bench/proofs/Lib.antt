@@ -9,5 +9,6 @@ pub mod Quiet
 pub mod Appends
 pub mod Flushes
 pub mod AppendStep
+pub mod WrittenKeeps
 pub mod PageReads
 pub mod Reading
