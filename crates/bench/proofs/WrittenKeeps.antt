@@ -192,3 +192,36 @@ module _ {w : ℕ} {x : World} {b : Book} (bk : Books w (x .log .geometry) (x .l
         live = λ m h. inl (written-near m (has-back (left-books new) (emptyPage (k + 1)) m h) .0);
         under = idle;
       }
+
+  -- the waiting entry is stored in the opened page
+  module _ (e : List ℕ) (long : length e + 2 * w ≤ p) where
+    -- it fits there
+    opened-room : fitsPage w (inState (opened w (x .log)) Idle) (length e) ≡ true
+    unfolding fitsPage
+    opened-room =
+        let rest : (roundUp p (x .log .append) + w) % p ≡ w = rest-of (k + 1) {r = w} (omega (arith, f)) (omega (arith, next-up)) in
+        let some-word : eqb w 0 ≡ false = ne-eqb w 0 (λ (z : w ≡ 0). omega (arith, f .word)) in
+        rw (rest, some-word) (le-leb (length e + w) (p - w) (omega arith))
+
+    -- the book with it
+    pub stored-books : allowed w (x .log .geometry) (x .log .circular) (k + 1) ≡ true → Good w p e
+        → Books w (x .log .geometry) (x .log .circular) (inSlot p (slotOf n k) (x .page) (x .volume)) (withOpen writtenBook (joined (emptyPage (k + 1)) e))
+    stored-books may good = books-join (opened-books may) e good (omega (arith, longer w [] e))
+
+    -- the world with it
+    abbrev pub storedWorld : World
+    storedWorld = record {
+      power = true;
+      log = stored w (opened w (x .log)) (length e) .log;
+      page = storedPage w (opened w (x .log)) (openedPage w (x .log .geometry) (x .log .append) (x .page)) e;
+      hold = x .hold;
+      volume = inSlot p (slotOf n k) (x .page) (x .volume);
+      operation = nothing;
+    }
+
+    -- what holds there
+    pub opened-stored : allowed w (x .log .geometry) (x .log .circular) (k + 1) ≡ true → stateFits w (inState (opened w (x .log)) Idle) ≡ true
+        → stateFits w (stored w (opened w (x .log)) (length e) .log) ≡ true
+        → Running w (x .log .geometry) (x .log .circular) storedWorld (withOpen writtenBook (joined (emptyPage (k + 1)) e))
+    unfolding stored storedPage
+    opened-stored may fits after = stored-running {x = openedWorld} (opened-books may) (opened-running fits) e opened-room refl after
