@@ -10,5 +10,6 @@ pub mod Appends
 pub mod Flushes
 pub mod AppendStep
 pub mod WrittenKeeps
+pub mod WriteStep
 pub mod PageReads
 pub mod Reading
