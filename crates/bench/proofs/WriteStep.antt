@@ -156,3 +156,98 @@ module _ {w : ℕ} {x : World} {b : Book} (bk : Books w (x .log .geometry) (x .l
           (subst (λ (d : List ℕ). Ends w x b good left new (stored w (opened w (x .log)) (length (b .waiting)))
           (storedPage w (opened w (x .log)) (openedPage w (x .log .geometry) (x .log .append) (x .page)) d)) (sym (wa .held))
           (stored-ends (wa .next) opens (wa .some-byte) (wa .fits) after))
+
+  -- A is at a page's start exactly if the open page is full
+  full-offset : eqb (offsetOf p (x .log .append)) 0 ≡ fills w p (b .open-page)
+  full-offset = go (decLt (pageLength w (b .open-page .entries)) p)
+    where
+      go : Dec (pageLength w (b .open-page .entries) < p) → eqb (offsetOf p (x .log .append)) 0 ≡ fills w p (b .open-page)
+      go (yes h) =
+          let rest : x .log .append % p ≡ pageLength w (b .open-page .entries) = rest-of k h (r .appends) in
+          ne-eqb _ _ (λ (z : x .log .append % p ≡ 0). omega (arith, rest, f .word, z))
+          ∙ sym (ne-eqb _ _ (λ (z : pageLength w (b .open-page .entries) ≡ p). omega (arith, h, z)))
+      go (no h) =
+          let most = bk .open-fits in
+          let at : x .log .append ≡ (k + 1) * p + 0 = omega (arith, r .appends, most, h) in
+          let full : pageLength w (b .open-page .entries) ≡ p = omega (arith, most, h) in
+          eq-eqb _ _ (rest-of (k + 1) (f .page) at) ∙ sym (eq-eqb _ _ full)
+
+  -- the world and the book after a sync's good write: c says that A is at a page's start, d that the next page may be opened, c' and d' the same by the book
+  abbrev Synced : Bool → Bool → Bool → Bool → Type 0
+  Synced c d c' d' =
+      Inv w (x .log .geometry) (x .log .circular)
+      (record {
+        power = true;
+        log = syncDone (pick (c && d) (opened w (x .log)) (x .log)) OK .log;
+        page = pick (c && d) (openedPage w (x .log .geometry) (x .log .append) (x .page)) (x .page);
+        hold = x .hold;
+        volume = inSlot p (slotOf n k) (x .page) (x .volume);
+        operation = nothing;
+      })
+      (withOpen (writtenBook bk r wr) (pick c' (pick d' (emptyPage (k + 1)) (b .open-page)) (b .open-page)))
+
+  -- a sync's good write that opens nothing
+  sync-rests : Inv w (x .log .geometry) (x .log .circular)
+      (record { power = true; log = inState (x .log) Idle; page = x .page; hold = x .hold; volume = inSlot p (slotOf n k) (x .page) (x .volume); operation = nothing }) (writtenBook bk r wr)
+  sync-rests =
+      record { books = left-books bk r wr new; powered = idle-running bk r wr (writtenBook bk r wr) refl (left-live bk r wr new) _ (x .log .kept) (fits-after false Sync) }
+
+  -- the book opens the next page where the log does
+  synced : (c d : Bool) → allowed w (x .log .geometry) (x .log .circular) (k + 1) ≡ d → Synced c d c d
+  synced true true e = record { books = opened-books bk r wr e; powered = opened-running bk r wr (fits-opened (next-may bk r wr ∙ e)) }
+  synced true false e = sync-rests
+  synced false d e = sync-rests
+
+  -- a good write of a sync
+  pub done-sync : Ends w x b good left new (syncWritten w (x .log)) (syncWrittenPage w (x .log) (x .page))
+  unfolding syncWritten syncWrittenPage note
+  done-sync c =
+      subst (λ (t : Bool). Synced t (opensNext w (x .log)) (fills w p (b .open-page)) (allowed w (x .log .geometry) (x .log .circular) (k + 1))) (sym full-offset)
+      (subst (λ (t : Bool). Synced (fills w p (b .open-page)) t (fills w p (b .open-page)) (allowed w (x .log .geometry) (x .log .circular) (k + 1))) (sym (next-may bk r wr))
+      (synced (fills w p (b .open-page)) (allowed w (x .log .geometry) (x .log .circular) (k + 1)) refl))
+
+-- an append's write that ends
+append-ends : {w : ℕ} {x : World} {b : Book} (bk : Books w (x .log .geometry) (x .log .circular) (x .volume) b) (r : Running w (x .log .geometry) (x .log .circular) x b)
+    → Writes w (x .log .geometry) x b (r .oldest-page) → Waits w (x .log .geometry) (x .log .circular) x b → (good : Bool) (left : Left)
+    → Ends w x b good left (writeLeaves good left) (writeRuns w (x .log) good Append) (writePage w (x .log) good Append (x .page) (x .hold))
+append-ends bk r wr wa true left = done-append bk r wr true left wa
+append-ends bk r wr wa false left = failed-append bk r wr false left left
+
+-- a sync's write that ends
+sync-ends : {w : ℕ} {x : World} {b : Book} (bk : Books w (x .log .geometry) (x .log .circular) (x .volume) b) (r : Running w (x .log .geometry) (x .log .circular) x b)
+    → Writes w (x .log .geometry) x b (r .oldest-page) → (good : Bool) (left : Left)
+    → Ends w x b good left (writeLeaves good left) (writeRuns w (x .log) good Sync) (writePage w (x .log) good Sync (x .page) (x .hold))
+sync-ends bk r wr true left = done-sync bk r wr true left
+sync-ends bk r wr false left = failed-sync bk r wr false left left
+
+-- a write completion keeps the invariant
+pub write-step : {w : ℕ} (x : World) (b : Book) → Inv w (x .log .geometry) (x .log .circular) x b
+    → Running w (x .log .geometry) (x .log .circular) x b
+    → (good : Bool) (left : Left)
+    → Clear (entryOf b (event.write-complete good left) (writeStep w (x .log .geometry .p) (x .log .geometry .first) x (x .operation) good left .told))
+    → Inv w (x .log .geometry) (x .log .circular) (writeStep w (x .log .geometry .p) (x .log .geometry .first) x (x .operation) good left .world)
+    (note w (x .log .geometry) (x .log .circular) b (event.write-complete good left) (writeStep w (x .log .geometry .p) (x .log .geometry .first) x (x .operation) good left .told))
+write-step {w} x b inv r good left clear = go (x .log .state) (x .operation) refl (r .under) clear
+  where
+    bk : Books w (x .log .geometry) (x .log .circular) (x .volume) b
+    bk = inv .books
+
+    -- a completion in a state in which no write is due
+    stray : unlessWriting (x .log .state) ≡ some STRAY
+        → Inv w (x .log .geometry) (x .log .circular) (writeStep w (x .log .geometry .p) (x .log .geometry .first) x nothing good left .world)
+        (note w (x .log .geometry) (x .log .circular) b (event.write-complete good left) (writeStep w (x .log .geometry .p) (x .log .geometry .first) x nothing good left .told))
+    stray e =
+        stray-keeps bk r good left (gate w (x .log) (length (x .volume)) (length (x .page)) (length (x .hold))) (unlessWriting (x .log .state)) (writeRuns w (x .log) good (x .log .state))
+        (writePage w (x .log) good (x .log .state) (x .page) (x .hold)) e
+
+    go : (s : State) (op : Operation) → x .log .state ≡ s → Under w (x .log .geometry) (x .log .circular) x b (r .oldest-page) s op
+        → Clear (entryOf b (event.write-complete good left) (writeStep w (x .log .geometry .p) (x .log .geometry .first) x op good left .told))
+        → Inv w (x .log .geometry) (x .log .circular) (writeStep w (x .log .geometry .p) (x .log .geometry .first) x op good left .world)
+        (note w (x .log .geometry) (x .log .circular) b (event.write-complete good left) (writeStep w (x .log .geometry .p) (x .log .geometry .first) x op good left .told))
+    go _ _ e idle c = stray (ap unlessWriting e)
+    go _ _ e read c = stray (ap unlessWriting e)
+    go _ _ e seek c = stray (ap unlessWriting e)
+    go _ _ e stuck c = stray (ap unlessWriting e)
+    go _ _ e (erase q) c = stray (ap unlessWriting e)
+    go _ _ e (sync wr) c = ends-in bk r wr good left (writeLeaves good left) Sync e refl (sync-ends bk r wr good left) c
+    go _ _ e (append wr wa) c = ends-in bk r wr good left (writeLeaves good left) Append e refl (append-ends bk r wr wa good left) c
