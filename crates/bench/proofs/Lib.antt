@@ -10,6 +10,8 @@ pub mod Appends
 pub mod Flushes
 pub mod AppendStep
 pub mod SyncStep
+pub mod WrittenKeeps
+pub mod WriteStep
 pub mod PageReads
 pub mod Reading
 pub mod CutStep
