@@ -1,0 +1,142 @@
+-- The events erase and erase completion keep the invariant. The sizes and the mode are the log's own.
+use Prim.Native.Nat.{ℕ, _+_, _*_, _-_, _/_, _%_, _≤_, _<_}
+use mathlib.Core.Path.{_≡_, refl, sym, ap, _∙_, subst}
+use mathlib.Core.Bool.{Bool, true, false}
+use mathlib.Core.List.{List, []}
+use mathlib.Core.Logic.{_⊎_, inl, inr}
+use mathlib.Core.Option.{Option, none, some}
+use native.Mathlib.Omega.{arith}
+use lib.ListN.{length}
+use Rattle.page.specs.Id.{slotOf, firstId}
+use Rattle.page.proofs.Kit.{Facts, facts, page-of}
+use Rattle.log.specs.Answer as answer
+use Rattle.log.specs.Log.{Geometry, State, Idle, Erase, Log}
+use Rattle.log.specs.Check.{stateFits}
+use Rattle.call.specs.Outcome.{Outcome, Word, ok, busy, fail, orElse, refusal, unless, moved}
+use Rattle.call.specs.Gate.{gate, unlessIdle, unlessSet, unlessFree}
+use Rattle.call.proofs.Checks.{or-none, is-idle}
+use Rattle.erasing.specs.Erase.{eraseStarts, eraseCall}
+use Rattle.engine.proofs.ErasesKeep.{erase-call-keeps}
+use Rattle.bench.specs.Flash.{Operation, nothing, writing, erasing, started}
+use Rattle.bench.specs.Event as event
+use Rattle.bench.specs.World.{World, Ended, unended, erasedSlot, Done, erases, Step, delivered}
+use Rattle.bench.specs.Book.{Page, Book, asked, note}
+use Rattle.bench.proofs.Invariant.{Has, Books, Under, idle, stuck, erase, Running, Inv}
+use Rattle.bench.proofs.Quiet.{withLog, quiet-refusal, running-quiet, no-start, under-nothing, idle-rests}
+
+-- the book with another slot noted for an erase
+abbrev pub noting : Book → ℕ → Book
+noting b s = record { slots = b .slots; open-page = b .open-page; waiting = b .waiting; erasing = s }
+
+-- which pages the book has doesn't depend on it
+pub has-noted : {g : Geometry} {b : Book} {s m : ℕ} → Has g (noting b s) m → Has g b m
+has-noted h = record { page = h .page; there = h .there; number = h .number }
+
+pub has-noting : {g : Geometry} {b : Book} {s m : ℕ} → Has g b m → Has g (noting b s) m
+has-noting h = record { page = h .page; there = h .there; number = h .number }
+
+-- nor does what holds of the book and the volume
+pub books-noting : {w : ℕ} {g : Geometry} {circular : Bool} {volume : List ℕ} {b : Book} → Books w g circular volume b → (s : ℕ) → Books w g circular volume (noting b s)
+books-noting {w} {g} {circular} {volume} {b} bk s = record {
+  sizes = bk .sizes;
+  first = bk .first;
+  whole = bk .whole;
+  open-allowed = bk .open-allowed;
+  open-fits = bk .open-fits;
+  open-good = bk .open-good;
+  slots = bk .slots;
+  near = λ m h. bk .near m (has-noted h);
+  gaps = λ m h j l u. on j (bk .gaps m (has-noted h) j l u);
+  open-some = λ h. bk .open-some (has-noted h);
+}
+  where
+    on : {A : Type 0} (j : ℕ) → Has g b j ⊎ A → Has g (noting b s) j ⊎ A
+    on j (inl h) = inl (has-noting h)
+    on j (inr e) = inr e
+
+-- a world with another state, other IDs O and R, and another operation
+abbrev pub turned : World → State → ℕ → ℕ → Operation → World
+turned x state oldest read op = record { power = true; log = moved (x .log) state oldest read (x .log .append) (x .log .kept); page = x .page; hold = x .hold; volume = x .volume; operation = op }
+
+-- what it keeps with the power on
+pub turned-running : {w : ℕ} {x : World} {b : Book} → Running w (x .log .geometry) (x .log .circular) x b → (s : ℕ) (state : State) (oldest read : ℕ) (op : Operation)
+    → stateFits w (turned x state oldest read op .log) ≡ true → (o : ℕ) → oldest ≡ firstId (x .log .geometry .p) o + w
+    → (o ≤ b .open-page .number) × (b .open-page .number ≤ o + x .log .geometry .n)
+    → ((m : ℕ) → Has (x .log .geometry) b m → (o ≤ m) ⊎ ((m + x .log .geometry .n ≡ b .open-page .number) × (b .open-page .entries ≡ [] → ⊥)))
+    → Under w (x .log .geometry) (x .log .circular) (turned x state oldest read op) (noting b s) o state op
+    → Running w (x .log .geometry) (x .log .circular) (turned x state oldest read op) (noting b s)
+turned-running r s state oldest read op fits o is near live under = record {
+  geometry = refl;
+  mode = refl;
+  page-length = r .page-length;
+  hold-length = r .hold-length;
+  fits = fits;
+  appends = r .appends;
+  begins = r .begins;
+  oldest-page = o;
+  oldest = is;
+  oldest-near = near;
+  live = λ m h. live m (has-noted h);
+  under = under;
+}
+
+-- the flash page less the first is the slot
+pub less-first : (first t : ℕ) → first + t - first ≡ t
+less-first first t = omega arith
+
+-- an erase that is asked for in state Erase is under way, or nothing is
+pub asked-under : {w : ℕ} {g : Geometry} {circular : Bool} {x : World} (b : Book) (first t o : ℕ) → t ≡ slotOf (g .n) o → (op : Operation) → op ≡ nothing → (word : Word)
+    → Under w g circular x (noting b (first + t - first)) o Erase (started op (answer.erase (first + t)) word first)
+asked-under {w} {g} {circular} {x} b first t o e op n ok =
+    let s : first + t - first ≡ slotOf (g .n) o = less-first first t ∙ e in
+    subst (λ (q : ℕ). Under w g circular x (noting b (first + t - first)) o Erase (erasing q)) (sym s) (erase s)
+asked-under {w} {g} {circular} {x} b first t o e op n busy = subst (Under w g circular x (noting b (first + t - first)) o Erase) (sym n) stuck
+asked-under {w} {g} {circular} {x} b first t o e op n fail = subst (Under w g circular x (noting b (first + t - first)) o Erase) (sym n) stuck
+
+module _ {w : ℕ} {x : World} {b : Book} (bk : Books w (x .log .geometry) (x .log .circular) (x .volume) b) (r : Running w (x .log .geometry) (x .log .circular) x b) where
+  abbrev g : Geometry
+  g = x .log .geometry
+
+  abbrev c : Bool
+  c = x .log .circular
+
+  f : Facts w (g .p) (g .n)
+  f = facts (bk .sizes)
+
+  -- a call that is refused leaves all as it was
+  pub refused-inv : (a : ℕ) (word : Word)
+      → Inv w g c (record { power = true; log = x .log; page = x .page; hold = x .hold; volume = x .volume; operation = started (x .operation) answer.none word (g .first) }) b
+  refused-inv a word = record {
+    books = bk;
+    powered =
+        subst (λ (op : Operation). Running w g c (record { power = true; log = x .log; page = x .page; hold = x .hold; volume = x .volume; operation = op }) b)
+        (sym (no-start (x .operation) word (g .first))) (running-quiet r (refusal (x .log) a) (quiet-refusal (x .log) a) (r .fits));
+  }
+
+  -- O's page is the oldest
+  pub oldest-of : x .log .oldest / g .p ≡ r .oldest-page
+  oldest-of = page-of (r .oldest-page) {r = w} (omega (arith, f .page-words, f .word)) (r .oldest)
+
+-- the event erase keeps the invariant
+pub erase-step : {w : ℕ} (x : World) (b : Book) → Books w (x .log .geometry) (x .log .circular) (x .volume) b → Running w (x .log .geometry) (x .log .circular) x b → (word : Word)
+    → Inv w (x .log .geometry) (x .log .circular) (delivered (x .log .geometry .first) x unended (erases w x word) word .world)
+    (note w (x .log .geometry) (x .log .circular) b (event.erase word) (delivered (x .log .geometry .first) x unended (erases w x word) word .told))
+unfolding note eraseCall unlessFree
+erase-step {w} x b bk r word =
+    go (orElse (gate w (x .log) (length (x .volume)) (length (x .page)) (length (x .hold))) (unlessFree (x .log))) refl
+    (erase-call-keeps w (x .log) (length (x .volume)) (length (x .page)) (length (x .hold)) word (r .fits))
+  where
+    go : (check : Option ℕ) → orElse (gate w (x .log) (length (x .volume)) (length (x .page)) (length (x .hold))) (unlessFree (x .log)) ≡ check
+        → stateFits w (unless check (x .log) (eraseStarts (x .log) word) .log) ≡ true
+        → Inv w (x .log .geometry) (x .log .circular)
+        (delivered (x .log .geometry .first) x unended (record { outcome = unless check (x .log) (eraseStarts (x .log) word); page = x .page; hold = x .hold }) word .world)
+        (asked b (erasedSlot (x .log .geometry .first) (unless check (x .log) (eraseStarts (x .log) word) .request)))
+    go (some a) e fits = refused-inv bk r a word
+    go none e fits =
+        let i : x .log .state ≡ Idle =
+        is-idle (x .log .state) (or-none (unlessIdle (x .log .state)) _ (or-none (gate w (x .log) (length (x .volume)) (length (x .page)) (length (x .hold))) (unlessFree (x .log)) e .1) .0) in
+        record {
+          books = books-noting bk _;
+          powered = turned-running r _ Erase (x .log .oldest) (x .log .read) _ fits (r .oldest-page) (r .oldest) (r .oldest-near) (r .live)
+              (asked-under b (x .log .geometry .first) _ (r .oldest-page) (ap (slotOf (x .log .geometry .n)) (oldest-of bk r)) (x .operation) (under-nothing (idle-rests i) (r .under)) word);
+        }
