@@ -6,22 +6,35 @@ use mathlib.Core.List.{List, []}
 use mathlib.Core.Logic.{_⊎_, inl, inr}
 use mathlib.Core.Option.{Option, none, some}
 use native.Mathlib.Omega.{arith}
-use lib.ListN.{length}
+use native.Mathlib.Nat.{add-mod-right}
+use native.Mathlib.Decide.{ℕ-discrete}
+use lib.ListN.{length, replicate, length-replicate}
+use borrow.Author.Tests.{leb-true, leb-false}
+use Rattle.page.specs.Pick.{pick}
 use Rattle.page.specs.Id.{slotOf, firstId}
-use Rattle.page.proofs.Kit.{Facts, facts, page-of}
+use Rattle.page.specs.Layout.{pageLength}
+use Rattle.page.proofs.Kit.{Facts, facts, page-of, pages-lt}
+use Rattle.log.specs.Answer.{STRAY}
 use Rattle.log.specs.Answer as answer
-use Rattle.log.specs.Log.{Geometry, State, Idle, Erase, Log}
+use Rattle.log.specs.Log.{Geometry, State, Idle, Read, Seek, Append, Sync, Erase, Log}
 use Rattle.log.specs.Check.{stateFits}
-use Rattle.call.specs.Outcome.{Outcome, Word, ok, busy, fail, orElse, refusal, unless, moved}
-use Rattle.call.specs.Gate.{gate, unlessIdle, unlessSet, unlessFree}
+use Rattle.log.proofs.Checks.{StateFits, state-fits, fits-state}
+use Rattle.call.specs.Outcome.{Outcome, Word, ok, busy, fail, orElse, refusal, unless, keep, moved}
+use Rattle.call.specs.Gate.{gate, unlessIdle, unlessSet, unlessErasing, unlessFree}
 use Rattle.call.proofs.Checks.{or-none, is-idle}
-use Rattle.erasing.specs.Erase.{eraseStarts, eraseCall}
-use Rattle.engine.proofs.ErasesKeep.{erase-call-keeps}
-use Rattle.bench.specs.Flash.{Operation, nothing, writing, erasing, started}
+use Rattle.erasing.specs.Erase.{eraseStarts, eraseCall, lastErased, reset, readAfterBusy, erasesNext, eraseRuns, eraseBuffer, eraseChecks}
+use Rattle.engine.proofs.ErasesKeep.{erase-fits, erase-call-keeps}
+use Rattle.bench.specs.Flash.{Operation, nothing, writing, erasing, started, Left, new, Erased, kept, erased, blankSlot}
 use Rattle.bench.specs.Event as event
-use Rattle.bench.specs.World.{World, Ended, unended, erasedSlot, Done, erases, Step, delivered}
-use Rattle.bench.specs.Book.{Page, Book, asked, note}
-use Rattle.bench.proofs.Invariant.{Has, Books, Under, idle, stuck, erase, Running, Inv}
+use Rattle.bench.specs.Event.{eraseLeaves}
+use Rattle.bench.specs.World.{World, Ended, unended, wiped, silence, erasedSlot, Done, erases, eraseCompletes, Step, delivered, afterEnd, strayStep, eraseStep}
+use Rattle.bench.specs.Book.{Page, Book, emptyPage, withSlot, withOpen, leftIn, wipedAll, asked, note}
+use Rattle.bench.proofs.Invariant.{Has, Books, Under, idle, read, seek, stuck, erase, sync, append, Running, Inv}
+use Rattle.bench.proofs.BookSteps.{has-left, has-back}
+use Rattle.bench.proofs.RestartKeeps.{allowed-zero, begins-zero}
+use Rattle.bench.proofs.EntryReads.{fits-shape, passes}
+use Rattle.bench.proofs.Appends.{some-length}
+use Rattle.bench.proofs.CutStep.{books-wiped}
 use Rattle.bench.proofs.Quiet.{withLog, quiet-refusal, running-quiet, no-start, under-nothing, idle-rests}
 
 -- the book with another slot noted for an erase
@@ -56,16 +69,16 @@ books-noting {w} {g} {circular} {volume} {b} bk s = record {
 
 -- a world with another state, other IDs O and R, and another operation
 abbrev pub turned : World → State → ℕ → ℕ → Operation → World
-turned x state oldest read op = record { power = true; log = moved (x .log) state oldest read (x .log .append) (x .log .kept); page = x .page; hold = x .hold; volume = x .volume; operation = op }
+turned x state oldest at op = record { power = true; log = moved (x .log) state oldest at (x .log .append) (x .log .kept); page = x .page; hold = x .hold; volume = x .volume; operation = op }
 
 -- what it keeps with the power on
-pub turned-running : {w : ℕ} {x : World} {b : Book} → Running w (x .log .geometry) (x .log .circular) x b → (s : ℕ) (state : State) (oldest read : ℕ) (op : Operation)
-    → stateFits w (turned x state oldest read op .log) ≡ true → (o : ℕ) → oldest ≡ firstId (x .log .geometry .p) o + w
+pub turned-running : {w : ℕ} {x : World} {b : Book} → Running w (x .log .geometry) (x .log .circular) x b → (s : ℕ) (state : State) (oldest at : ℕ) (op : Operation)
+    → stateFits w (turned x state oldest at op .log) ≡ true → (o : ℕ) → oldest ≡ firstId (x .log .geometry .p) o + w
     → (o ≤ b .open-page .number) × (b .open-page .number ≤ o + x .log .geometry .n)
     → ((m : ℕ) → Has (x .log .geometry) b m → (o ≤ m) ⊎ ((m + x .log .geometry .n ≡ b .open-page .number) × (b .open-page .entries ≡ [] → ⊥)))
-    → Under w (x .log .geometry) (x .log .circular) (turned x state oldest read op) (noting b s) o state op
-    → Running w (x .log .geometry) (x .log .circular) (turned x state oldest read op) (noting b s)
-turned-running r s state oldest read op fits o is near live under = record {
+    → Under w (x .log .geometry) (x .log .circular) (turned x state oldest at op) (noting b s) o state op
+    → Running w (x .log .geometry) (x .log .circular) (turned x state oldest at op) (noting b s)
+turned-running r s state oldest at op fits o is near live under = record {
   geometry = refl;
   mode = refl;
   page-length = r .page-length;
@@ -93,6 +106,10 @@ asked-under {w} {g} {circular} {x} b first t o e op n ok =
 asked-under {w} {g} {circular} {x} b first t o e op n busy = subst (Under w g circular x (noting b (first + t - first)) o Erase) (sym n) stuck
 asked-under {w} {g} {circular} {x} b first t o e op n fail = subst (Under w g circular x (noting b (first + t - first)) o Erase) (sym n) stuck
 
+-- no page of the book is in the oldest page's slot
+abbrev pub NoneOldest : Geometry → Book → ℕ → Type 0
+NoneOldest g b o = (m : ℕ) → Has g b m → slotOf (g .n) m ≡ slotOf (g .n) o → ⊥
+
 module _ {w : ℕ} {x : World} {b : Book} (bk : Books w (x .log .geometry) (x .log .circular) (x .volume) b) (r : Running w (x .log .geometry) (x .log .circular) x b) where
   abbrev g : Geometry
   g = x .log .geometry
@@ -100,7 +117,22 @@ module _ {w : ℕ} {x : World} {b : Book} (bk : Books w (x .log .geometry) (x .l
   abbrev c : Bool
   c = x .log .circular
 
-  f : Facts w (g .p) (g .n)
+  abbrev p : ℕ
+  p = g .p
+
+  abbrev n : ℕ
+  n = g .n
+
+  abbrev k : ℕ
+  k = b .open-page .number
+
+  abbrev es : List (List ℕ)
+  es = b .open-page .entries
+
+  abbrev o : ℕ
+  o = r .oldest-page
+
+  f : Facts w p n
   f = facts (bk .sizes)
 
   -- a call that is refused leaves all as it was
@@ -116,6 +148,33 @@ module _ {w : ℕ} {x : World} {b : Book} (bk : Books w (x .log .geometry) (x .l
   -- O's page is the oldest
   pub oldest-of : x .log .oldest / g .p ≡ r .oldest-page
   oldest-of = page-of (r .oldest-page) {r = w} (omega (arith, f .page-words, f .word)) (r .oldest)
+
+  -- the gate passes
+  pub gate-passes : gate w (x .log) (length (x .volume)) (length (x .page)) (length (x .hold)) ≡ none
+  gate-passes =
+      passes w (x .log) (length (x .volume)) (length (x .page)) (length (x .hold))
+      (fits-shape g (length (x .volume)) (length (x .page)) (length (x .hold)) (bk .sizes) (bk .first) (bk .whole) (r .page-length) (r .hold-length)) (r .fits)
+
+  -- where the last page was erased, the book has no page
+  none-left : NoneOldest g b o → x .log .append ≤ x .log .oldest + p → (m : ℕ) → Has g b m → ⊥
+  none-left gone last m h = go (r .live m h) (ℕ-discrete m o)
+    where
+      near : k < o + 2
+      near = pages-lt k (o + 2) p {x = k * p} (omega arith) (omega (arith, last, r .oldest, r .appends, f .page))
+
+      short : (es ≡ [] → ⊥) → k < o + 1
+      short e = pages-lt k (o + 1) p {x = k * p} (omega arith) (omega (arith, last, r .oldest, r .appends, some-length w es (omega (arith, f .word)) e))
+
+      go : (o ≤ m) ⊎ ((m + n ≡ k) × (es ≡ [] → ⊥)) → Dec (m ≡ o) → ⊥
+      go a (yes e) = gone m h (ap (slotOf n) e)
+      go (inl l) (no d) =
+          let e : m ≡ k = omega (arith, l, d, near, bk .near m h .0) in
+          let q : k < o + 1 = short (bk .open-some (subst (Has g b) e h)) in
+          omega (arith, l, d, e, q)
+      go (inr i) (no d) =
+          let q : k < o + 1 = short (i .1) in
+          let e : k ≡ o = omega (arith, q, r .oldest-near .0) in
+          gone m h (sym (add-mod-right m n) ∙ ap (slotOf n) (i .0 ∙ e))
 
 -- the event erase keeps the invariant
 pub erase-step : {w : ℕ} (x : World) (b : Book) → Books w (x .log .geometry) (x .log .circular) (x .volume) b → Running w (x .log .geometry) (x .log .circular) x b → (word : Word)
@@ -140,3 +199,4 @@ erase-step {w} x b bk r word =
           powered = turned-running r _ Erase (x .log .oldest) (x .log .read) _ fits (r .oldest-page) (r .oldest) (r .oldest-near) (r .live)
               (asked-under b (x .log .geometry .first) _ (r .oldest-page) (ap (slotOf (x .log .geometry .n)) (oldest-of bk r)) (x .operation) (under-nothing (idle-rests i) (r .under)) word);
         }
+

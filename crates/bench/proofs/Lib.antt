@@ -11,5 +11,5 @@ pub mod Flushes
 pub mod AppendStep
 pub mod PageReads
 pub mod Reading
-pub mod EraseStep
 pub mod CutStep
+pub mod EraseStep
