@@ -176,6 +176,91 @@ module _ {w : ℕ} {x : World} {b : Book} (bk : Books w (x .log .geometry) (x .l
           let e : k ≡ o = omega (arith, q, r .oldest-near .0) in
           gone m h (sym (add-mod-right m n) ∙ ap (slotOf n) (i .0 ∙ e))
 
+  -- the world and the book after the last page was erased
+  pub reset-inv : NoneOldest g b o → x .log .append ≤ x .log .oldest + p → x .operation ≡ nothing → stateFits w (reset w (x .log) .log) ≡ true → (word : Word)
+      → Inv w g c
+      (record { power = true; log = reset w (x .log) .log; page = replicate p 0; hold = x .hold; volume = x .volume; operation = started (x .operation) answer.none word (g .first) })
+      (withOpen b (emptyPage 0))
+  reset-inv gone last free fits word =
+      let no-page : (m : ℕ) → Has g (withOpen b (emptyPage 0)) m → ⊥ = λ m h. none-left gone last m (has-back bk (emptyPage 0) m h) in
+      record {
+        books = record {
+          sizes = bk .sizes;
+          first = bk .first;
+          whole = bk .whole;
+          open-allowed = allowed-zero g c (bk .sizes);
+          open-fits = omega (arith, f);
+          open-good = tt;
+          slots = bk .slots;
+          near = λ m h. absurd (no-page m h);
+          gaps = λ m h j l u. absurd (no-page m h);
+          open-some = λ h. absurd (no-page 0 h);
+        };
+        powered = record {
+          geometry = refl;
+          mode = refl;
+          page-length = length-replicate p 0;
+          hold-length = r .hold-length;
+          fits = fits;
+          appends = omega arith;
+          begins = begins-zero w p (omega (arith, f));
+          oldest-page = 0;
+          oldest = omega arith;
+          oldest-near = (omega arith, omega arith);
+          live = λ m h. absurd (no-page m h);
+          under = subst (Under w g c _ (withOpen b (emptyPage 0)) 0 Idle) (sym (no-start (x .operation) word (g .first) ∙ free)) idle;
+        };
+      }
+
+  -- an erase goes on to the next page
+  module _ (gone : NoneOldest g b o) (more : x .log .oldest + p < x .log .append) (free : x .operation ≡ nothing) where
+    next-is : x .log .oldest + p ≡ firstId p (o + 1) + w
+    next-is = omega (arith, r .oldest)
+
+    next-of : (x .log .oldest + p) / p ≡ o + 1
+    next-of = page-of (o + 1) {r = w} (omega (arith, f .page-words, f .word)) next-is
+
+    next-near : (o + 1 ≤ k) × (k ≤ o + 1 + n)
+    next-near =
+        let q : o + 1 < k + 1 = pages-lt (o + 1) (k + 1) p {x = x .log .oldest + p} (omega (arith, next-is)) (omega (arith, more, r .appends, bk .open-fits)) in
+        (omega (arith, q), omega (arith, r .oldest-near .1))
+
+    next-live : (m : ℕ) → Has g b m → (o + 1 ≤ m) ⊎ ((m + n ≡ k) × (es ≡ [] → ⊥))
+    next-live m h = go (r .live m h) (ℕ-discrete m o)
+      where
+        go : (o ≤ m) ⊎ ((m + n ≡ k) × (es ≡ [] → ⊥)) → Dec (m ≡ o) → (o + 1 ≤ m) ⊎ ((m + n ≡ k) × (es ≡ [] → ⊥))
+        go (inr i) d = inr i
+        go (inl l) (yes e) = absurd (gone m h (ap (slotOf n) e))
+        go (inl l) (no d) = inl (omega (arith, l, d))
+
+    -- the world and the book after it, whatever the driver's word
+    pub next-inv : (word : Word) → stateFits w (erasesNext (x .log) word .log) ≡ true
+        → Inv w g c
+        (record {
+          power = true;
+          log = erasesNext (x .log) word .log;
+          page = x .page;
+          hold = x .hold;
+          volume = x .volume;
+          operation = started (x .operation) (erasesNext (x .log) word .request) word (g .first);
+        })
+        (asked (wipedAll b (erasesNext (x .log) word .report)) (erasedSlot (g .first) (erasesNext (x .log) word .request)))
+    next-inv ok fits = record {
+      books = books-noting bk _;
+      powered = turned-running r _ Erase (x .log .oldest + p) (x .log .read) _ fits (o + 1) next-is next-near next-live
+          (asked-under b (g .first) _ (o + 1) (ap (slotOf n) next-of) (x .operation) free ok);
+    }
+    next-inv busy fits = record {
+      books = books-noting bk _;
+      powered = turned-running r _ Idle (x .log .oldest + p) (readAfterBusy (x .log .read) (x .log .oldest)) _ fits (o + 1) next-is next-near next-live
+          (subst (Under w g c _ _ (o + 1) Idle) (sym free) idle);
+    }
+    next-inv fail fits = record {
+      books = books-noting bk _;
+      powered = turned-running r _ Erase (x .log .oldest + p) (x .log .read) _ fits (o + 1) next-is next-near next-live
+          (asked-under b (g .first) _ (o + 1) (ap (slotOf n) next-of) (x .operation) free fail);
+    }
+
 -- the event erase keeps the invariant
 pub erase-step : {w : ℕ} (x : World) (b : Book) → Books w (x .log .geometry) (x .log .circular) (x .volume) b → Running w (x .log .geometry) (x .log .circular) x b → (word : Word)
     → Inv w (x .log .geometry) (x .log .circular) (delivered (x .log .geometry .first) x unended (erases w x word) word .world)
