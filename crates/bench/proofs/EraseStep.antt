@@ -261,6 +261,61 @@ module _ {w : ℕ} {x : World} {b : Book} (bk : Books w (x .log .geometry) (x .l
           (asked-under b (g .first) _ (o + 1) (ap (slotOf n) next-of) (x .operation) free fail);
     }
 
+  -- an erase's completion that is due: what it gives and leaves keeps the invariant
+  module _ (free : x .operation ≡ nothing) (word : Word) where
+    -- the world and the book after an outcome and with a page buffer
+    abbrev Kept : Outcome → List ℕ → Type 0
+    Kept u page' =
+        Inv w g c (record { power = true; log = u .log; page = page'; hold = x .hold; volume = x .volume; operation = started (x .operation) (u .request) word (g .first) })
+        (asked (wipedAll b (u .report)) (erasedSlot (g .first) (u .request)))
+
+    runs-inv : (good : Bool) → (good ≡ true → NoneOldest g b o) → Kept (eraseRuns w (x .log) good word) (eraseBuffer (x .log) good (x .page))
+    runs-inv true gone = go (lastErased (x .log)) refl (erase-fits (x .log) (bk .sizes) (state-fits w (x .log) (r .fits)) true word)
+      where
+        go : (t : Bool) → lastErased (x .log) ≡ t → StateFits w (pick t (reset w (x .log)) (erasesNext (x .log) word) .log)
+            → Kept (pick t (reset w (x .log)) (erasesNext (x .log) word)) (pick t (replicate p 0) (x .page))
+        go true e fits = reset-inv (gone refl) (leb-true _ _ e) free (fits-state w _ fits) word
+        go false e fits = next-inv (gone refl) (leb-false _ _ e) free word (fits-state w _ fits)
+    runs-inv false gone = record {
+      books = bk;
+      powered = turned-running r (b .erasing) Idle (x .log .oldest) (x .log .read) _ (fits-state w _ (erase-fits (x .log) (bk .sizes) (state-fits w (x .log) (r .fits)) false word)) o (r .oldest) (r .oldest-near) (r .live)
+          (subst (Under w g c _ _ o Idle) (sym (no-start (x .operation) word (g .first) ∙ free)) idle);
+    }
+
+    -- the completion passes its checks
+    pub completes-inv : x .log .state ≡ Erase → (good : Bool) → (good ≡ true → NoneOldest g b o)
+        → Kept (eraseCompletes w x good word .outcome) (eraseCompletes w x good word .page)
+    completes-inv i good gone =
+        let due : eraseChecks w (x .log) (length (x .volume)) (length (x .page)) (length (x .hold)) ≡ none =
+        ap (λ (a : Option ℕ). orElse a (unlessErasing (x .log .state))) gate-passes ∙ ap unlessErasing i in
+        subst (λ (a : Option ℕ). Kept (unless a (x .log) (eraseRuns w (x .log) good word)) (keep a (x .page) (eraseBuffer (x .log) good (x .page)))) (sym due) (runs-inv good gone)
+
+  -- an erase's completion that isn't due, where STRAY refuses it
+  pub stray-inv : (a : ℕ) → unlessErasing (x .log .state) ≡ some a → (good : Bool) (word : Word)
+      → Inv w g c (strayStep x (unlessErasing (x .log .state)) (delivered (g .first) x unended (eraseCompletes w x good word) word) .world)
+      (asked (wipedAll b (strayStep x (unlessErasing (x .log .state)) (delivered (g .first) x unended (eraseCompletes w x good word) word) .told .report))
+      (strayStep x (unlessErasing (x .log .state)) (delivered (g .first) x unended (eraseCompletes w x good word) word) .told .erases))
+  stray-inv a e good word =
+      let check : eraseChecks w (x .log) (length (x .volume)) (length (x .page)) (length (x .hold)) ≡ some a =
+      ap (λ (a : Option ℕ). orElse a (unlessErasing (x .log .state))) gate-passes ∙ e in
+      subst
+      (λ (q : Option ℕ). Inv w g c (strayStep x q (delivered (g .first) x unended (eraseCompletes w x good word) word) .world)
+      (asked (wipedAll b (strayStep x q (delivered (g .first) x unended (eraseCompletes w x good word) word) .told .report))
+      (strayStep x q (delivered (g .first) x unended (eraseCompletes w x good word) word) .told .erases)))
+      (sym e)
+      (subst
+      (λ (q : Option ℕ). Inv w g c
+      (record {
+        power = true;
+        log = unless q (x .log) (eraseRuns w (x .log) good word) .log;
+        page = keep q (x .page) (eraseBuffer (x .log) good (x .page));
+        hold = x .hold;
+        volume = x .volume;
+        operation = started (x .operation) (unless q (x .log) (eraseRuns w (x .log) good word) .request) word (g .first);
+      })
+      (asked (wipedAll b (unless q (x .log) (eraseRuns w (x .log) good word) .report)) (erasedSlot (g .first) (unless q (x .log) (eraseRuns w (x .log) good word) .request))))
+      (sym check) (refused-inv a word))
+
 -- the event erase keeps the invariant
 pub erase-step : {w : ℕ} (x : World) (b : Book) → Books w (x .log .geometry) (x .log .circular) (x .volume) b → Running w (x .log .geometry) (x .log .circular) x b → (word : Word)
     → Inv w (x .log .geometry) (x .log .circular) (delivered (x .log .geometry .first) x unended (erases w x word) word .world)
