@@ -16,3 +16,4 @@ pub mod PageReads
 pub mod Reading
 pub mod CutStep
 pub mod RestartStep
+pub mod EraseStep
