@@ -2,7 +2,7 @@
 use Prim.Native.Nat.{ℕ, _+_, _*_, _%_, _≤_, _<_}
 use mathlib.Core.Path.{_≡_, refl, sym, ap, _∙_, subst}
 use mathlib.Core.Bool.{Bool, true, false, _&&_}
-use mathlib.Core.List.{List, []}
+use mathlib.Core.List.{List}
 use mathlib.Core.Option.{Option, none, some}
 use native.Mathlib.Omega.{arith}
 use native.Mathlib.Decide.{decLt}
@@ -10,31 +10,30 @@ use lib.ListN.{length, take}
 use lib.Dec.{eqb}
 use borrow.Author.Tests.{eq-eqb, ne-eqb}
 use Rattle.page.specs.Pick.{pick}
-use Rattle.page.specs.Bytes.{padByte}
 use Rattle.page.specs.Id.{slotOf, offsetOf}
 use Rattle.page.specs.Layout.{pageLength, Good}
 use Rattle.page.proofs.Kit.{Facts, facts, rest-of}
 use Rattle.log.specs.Answer.{OK, FAIL, CANCEL, STRAY}
-use Rattle.log.specs.Log.{Geometry, State, Idle, Read, Seek, Append, Sync, Erase, Log}
+use Rattle.log.specs.Log.{State, Idle, Append, Sync}
 use Rattle.log.specs.Check.{stateFits}
 use Rattle.log.specs.Open.{openedPage}
 use Rattle.log.proofs.Checks.{state-fits, fits-state}
 use Rattle.call.specs.Outcome.{Outcome, ok, orElse, unless, keep, refusal, inState}
 use Rattle.call.specs.Gate.{gate, unlessWriting}
 use Rattle.buffering.specs.Store.{stored, storedPage}
-use Rattle.completing.specs.WriteComplete.{opensNext, opened, notStored, syncDone, appendWritten, appendWrittenPage, opensAfterSync, syncWritten, syncWrittenPage, writeRuns, writePage, writeChecks}
+use Rattle.completing.specs.WriteComplete.{opensNext, opened, notStored, syncDone, appendWritten, appendWrittenPage, syncWritten, syncWrittenPage, writeRuns, writePage, writeChecks}
 use Rattle.engine.proofs.StateKit.{state-set}
 use Rattle.engine.proofs.WritesKeep.{opened-fits, write-fits}
-use Rattle.bench.specs.Flash.{Operation, nothing, writing, erasing, started, Left, new, inSlot, afterWrite}
+use Rattle.bench.specs.Flash.{Operation, nothing, started, Left, new, inSlot, afterWrite}
 use Rattle.bench.specs.Event as event
 use Rattle.bench.specs.Event.{writeLeaves}
-use Rattle.bench.specs.World.{World, unended, wrote, heard, Done, delivered, strayStep, writeStep}
-use Rattle.bench.specs.Book.{Page, Book, allowed, fills, leftIn, withOpen, joined, emptyPage, nextPage, note}
+use Rattle.bench.specs.World.{World, unended, wrote, heard, delivered, strayStep, writeStep}
+use Rattle.bench.specs.Book.{Book, allowed, fills, leftIn, withOpen, joined, emptyPage, note}
 use Rattle.bench.specs.Promise.{doneEntry, entryOf, Clear}
 use Rattle.bench.proofs.Invariant.{Books, Writes, Waits, Under, idle, read, seek, stuck, erase, sync, append, Running, Inv}
 use Rattle.bench.proofs.EntryReads.{fits-shape, passes}
 use Rattle.bench.proofs.Quiet.{quiet-refusal, running-quiet}
-use Rattle.bench.proofs.WrittenKeeps.{left-books, left-open, left-live, idle-running, next-may, writtenBook, opened-books, openedWorld, opened-running, stored-books, storedWorld, opened-stored}
+use Rattle.bench.proofs.WrittenKeeps.{left-books, left-open, left-live, idle-running, next-may, writtenBook, opened-books, opened-running, stored-books, storedWorld, opened-stored}
 
 -- a completion that STRAY refuses changes nothing
 stray-keeps : {w : ℕ} {x : World} {b : Book} → Books w (x .log .geometry) (x .log .circular) (x .volume) b → Running w (x .log .geometry) (x .log .circular) x b
@@ -125,7 +124,7 @@ module _ {w : ℕ} {x : World} {b : Book} (bk : Books w (x .log .geometry) (x .l
   fits-opened : opensNext w (x .log) ≡ true → stateFits w (inState (opened w (x .log)) Idle) ≡ true
   fits-opened h = fits-state w _ (state-set (opened-fits (x .log) (bk .sizes) (state-fits w (x .log) (r .fits)) h) Idle refl)
 
-  -- a good write of an append stores what waits in the next page
+  -- what waits is stored in the next page
   stored-ends : allowed w (x .log .geometry) (x .log .circular) (k + 1) ≡ true → opensNext w (x .log) ≡ true → 1 ≤ length (b .waiting) → length (b .waiting) + 2 * w ≤ p
       → stateFits w (stored w (opened w (x .log)) (length (b .waiting)) .log) ≡ true
       → Ends w x b good left new (stored w (opened w (x .log)) (length (b .waiting)))
@@ -136,6 +135,7 @@ module _ {w : ℕ} {x : World} {b : Book} (bk : Books w (x .log .geometry) (x .l
       subst (λ (t : Bool). Inv w (x .log .geometry) (x .log .circular) (storedWorld bk r wr (b .waiting) long) (withOpen (writtenBook bk r wr) (joined (pick t (emptyPage (k + 1)) (b .open-page)) (b .waiting)))) (sym may)
       (record { books = stored-books bk r wr (b .waiting) long may good-entry; powered = opened-stored bk r wr (b .waiting) long may (fits-opened opens) fits })
 
+  -- a good write of an append
   pub done-append : Waits w (x .log .geometry) (x .log .circular) x b
       → Ends w x b good left new (appendWritten w (x .log)) (appendWrittenPage w (x .log) (x .page) (x .hold))
   unfolding appendWritten appendWrittenPage

@@ -2,28 +2,27 @@
 use Prim.Native.Nat.{ℕ, _+_, _*_, _-_, _/_, _%_, _≤_, _<_}
 use mathlib.Core.Path.{_≡_, refl, sym, ap, _∙_, subst}
 use mathlib.Core.Bool.{Bool, true, false, not, _&&_, _||_}
-use mathlib.Core.List.{List, [], _∷_, _++_}
+use mathlib.Core.List.{List, []}
 use mathlib.Core.Logic.{_⊎_, inl, inr}
-use mathlib.Core.Option.{Option, none, some}
+use mathlib.Core.Option.{some}
 use native.Mathlib.Omega.{arith}
 use native.Mathlib.Nat.{mod-lt, add-mod-right, mul-mod-left}
 use native.Mathlib.Decide.{decLt}
 use lib.ListN.{length, take}
 use lib.Dec.{eqb, ltb, leb}
-use borrow.Author.Tests.{lt-ltb, le-ltb, le-leb, eq-eqb, ne-eqb}
-use Rattle.page.specs.Pick.{pick}
-use Rattle.page.specs.Sizes.{Sizes, ceiling}
+use borrow.Author.Tests.{lt-ltb, le-ltb, le-leb, ne-eqb}
+use Rattle.page.specs.Sizes.{ceiling}
 use Rattle.page.specs.Id.{slotOf, firstId, roundUp}
 use Rattle.page.specs.Word.{wordBytes}
 use Rattle.page.specs.Bytes.{overwrite}
-use Rattle.page.specs.Layout.{pageLength, encodePage, wholePage, Good}
+use Rattle.page.specs.Layout.{pageLength, encodePage, Good}
 use Rattle.page.proofs.Kit.{Facts, facts, rest-of, page-of, round-first, round-next, full, full-back}
 use Rattle.page.proofs.Words.{length-wordBytes}
 use Rattle.page.proofs.Overwrites.{length-overwrite}
 use Rattle.page.proofs.Pages.{begins-header}
-use Rattle.log.specs.Log.{Geometry, State, Idle, Log}
+use Rattle.log.specs.Log.{Geometry, Idle}
 use Rattle.log.specs.Check.{stateFits}
-use Rattle.log.specs.Open.{mayOpen, openedId, openedPage}
+use Rattle.log.specs.Open.{mayOpen, openedPage}
 use Rattle.call.specs.Outcome.{moved, inState}
 use Rattle.buffering.specs.Store.{stored, storedPage}
 use Rattle.completing.specs.WriteComplete.{opened}
@@ -31,10 +30,10 @@ use Rattle.writing.specs.Append.{fitsPage}
 use Rattle.bench.specs.Flash.{nothing, inSlot, Left, old, blanked, new, afterWrite}
 use Rattle.bench.specs.World.{World, wrote}
 use Rattle.bench.specs.Book.{Page, Book, leftIn, withSlot, withOpen, emptyPage, joined, allowed}
-use Rattle.bench.proofs.Invariant.{Has, Books, Writes, Waits, idle, Running}
+use Rattle.bench.proofs.Invariant.{Has, Books, Writes, idle, Running}
 use Rattle.bench.proofs.BookSteps.{slot-same, has-left, has-put, books-blank, books-new, books-next, books-join, has-back}
 use Rattle.bench.proofs.RestartKeeps.{may-allowed}
-use Rattle.bench.proofs.Appends.{longer, some-length, stored-running}
+use Rattle.bench.proofs.Appends.{longer, stored-running}
 
 -- two IDs that round up to one page both lie, with a page, in the volume or neither does
 past-same : (n a c : ℕ) {p : ℕ} → 0 < p → roundUp p a ≡ roundUp p c → ltb (n * p) (a + p) ≡ ltb (n * p) (c + p)
