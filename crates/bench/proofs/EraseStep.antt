@@ -110,6 +110,11 @@ asked-under {w} {g} {circular} {x} b first t o e op n fail = subst (Under w g ci
 abbrev pub NoneOldest : Geometry → Book → ℕ → Type 0
 NoneOldest g b o = (m : ℕ) → Has g b m → slotOf (g .n) m ≡ slotOf (g .n) o → ⊥
 
+-- a world with the power on, in which the oldest page was erased
+pub record Wiped (w : ℕ) (g : Geometry) (circular : Bool) (x : World) (b : Book) : Type 0 where
+  pub running : Running w g circular x b
+  pub gone : NoneOldest g b (running .oldest-page)
+
 module _ {w : ℕ} {x : World} {b : Book} (bk : Books w (x .log .geometry) (x .log .circular) (x .volume) b) (r : Running w (x .log .geometry) (x .log .circular) x b) where
   abbrev g : Geometry
   g = x .log .geometry
@@ -290,31 +295,89 @@ module _ {w : ℕ} {x : World} {b : Book} (bk : Books w (x .log .geometry) (x .l
         ap (λ (a : Option ℕ). orElse a (unlessErasing (x .log .state))) gate-passes ∙ ap unlessErasing i in
         subst (λ (a : Option ℕ). Kept (unless a (x .log) (eraseRuns w (x .log) good word)) (keep a (x .page) (eraseBuffer (x .log) good (x .page)))) (sym due) (runs-inv good gone)
 
+  -- the invariant after a step of an erase's completion
+  abbrev pub After : Step → Type 0
+  After s = Inv w g c (s .world) (asked (wipedAll (leftIn n b (s .told .left)) (s .told .report)) (s .told .erases))
+
   -- an erase's completion that isn't due, where STRAY refuses it
   pub stray-inv : (a : ℕ) → unlessErasing (x .log .state) ≡ some a → (good : Bool) (word : Word)
-      → Inv w g c (strayStep x (unlessErasing (x .log .state)) (delivered (g .first) x unended (eraseCompletes w x good word) word) .world)
-      (asked (wipedAll b (strayStep x (unlessErasing (x .log .state)) (delivered (g .first) x unended (eraseCompletes w x good word) word) .told .report))
-      (strayStep x (unlessErasing (x .log .state)) (delivered (g .first) x unended (eraseCompletes w x good word) word) .told .erases))
+      → After (strayStep x (unlessErasing (x .log .state)) (delivered (g .first) x unended (eraseCompletes w x good word) word))
   stray-inv a e good word =
       let check : eraseChecks w (x .log) (length (x .volume)) (length (x .page)) (length (x .hold)) ≡ some a =
       ap (λ (a : Option ℕ). orElse a (unlessErasing (x .log .state))) gate-passes ∙ e in
-      subst
-      (λ (q : Option ℕ). Inv w g c (strayStep x q (delivered (g .first) x unended (eraseCompletes w x good word) word) .world)
-      (asked (wipedAll b (strayStep x q (delivered (g .first) x unended (eraseCompletes w x good word) word) .told .report))
-      (strayStep x q (delivered (g .first) x unended (eraseCompletes w x good word) word) .told .erases)))
-      (sym e)
+      subst (λ (q : Option ℕ). After (strayStep x q (delivered (g .first) x unended (eraseCompletes w x good word) word))) (sym e)
       (subst
-      (λ (q : Option ℕ). Inv w g c
-      (record {
-        power = true;
-        log = unless q (x .log) (eraseRuns w (x .log) good word) .log;
-        page = keep q (x .page) (eraseBuffer (x .log) good (x .page));
-        hold = x .hold;
-        volume = x .volume;
-        operation = started (x .operation) (unless q (x .log) (eraseRuns w (x .log) good word) .request) word (g .first);
-      })
-      (asked (wipedAll b (unless q (x .log) (eraseRuns w (x .log) good word) .report)) (erasedSlot (g .first) (unless q (x .log) (eraseRuns w (x .log) good word) .request))))
+      (λ (q : Option ℕ). After (delivered (g .first) x unended
+      (record { outcome = unless q (x .log) (eraseRuns w (x .log) good word); page = keep q (x .page) (eraseBuffer (x .log) good (x .page)); hold = x .hold }) word))
       (sym check) (refused-inv a word))
+
+  -- the world in which the erase under way has ended: nothing is under way, in state Erase
+  ended-kept : x .log .state ≡ Erase → (s : ℕ) → Running w g c (afterEnd p x (erasing s) new kept) b
+  ended-kept i s = record {
+    geometry = refl;
+    mode = refl;
+    page-length = r .page-length;
+    hold-length = r .hold-length;
+    fits = r .fits;
+    appends = r .appends;
+    begins = r .begins;
+    oldest-page = o;
+    oldest = r .oldest;
+    oldest-near = r .oldest-near;
+    live = r .live;
+    under = subst (λ (t : State). Under w g c (afterEnd p x (erasing s) new kept) b o t nothing) (sym i) stuck;
+  }
+
+  ended-erased : x .log .state ≡ Erase → b .erasing ≡ slotOf n o → (s : ℕ) → Wiped w g c (afterEnd p x (erasing s) new erased) (withSlot b (b .erasing) none)
+  ended-erased i e s = record {
+    running = record {
+      geometry = refl;
+      mode = refl;
+      page-length = r .page-length;
+      hold-length = r .hold-length;
+      fits = r .fits;
+      appends = r .appends;
+      begins = r .begins;
+      oldest-page = o;
+      oldest = r .oldest;
+      oldest-near = r .oldest-near;
+      live = λ m h. r .live m (has-left g b (b .erasing) m h .0);
+      under = subst (λ (t : State). Under w g c (afterEnd p x (erasing s) new erased) (withSlot b (b .erasing) none) o t nothing) (sym i) stuck;
+    };
+    gone = λ m h q. has-left g b (b .erasing) m h .1 (q ∙ sym e);
+  }
+
+-- an erase under way has ended: its completion keeps the invariant
+module _ {w : ℕ} {x : World} {b : Book} (bk : Books w (x .log .geometry) (x .log .circular) (x .volume) b) (r : Running w (x .log .geometry) (x .log .circular) x b) where
+  abbrev slot : ℕ
+  slot = slotOf (x .log .geometry .n) (r .oldest-page)
+
+  abbrev wipedWorld : Erased → World
+  wipedWorld left = afterEnd (x .log .geometry .p) x (erasing slot) new left
+
+  due-inv : x .log .state ≡ Erase → b .erasing ≡ slot → (good : Bool) (left : Erased) (word : Word)
+      → After bk r (eraseStep w (x .log .geometry .p) (x .log .geometry .first) x (erasing slot) good left word)
+  due-inv i e true left word =
+      let a = ended-erased bk r i e slot in
+      completes-inv {x = wipedWorld erased} (books-wiped bk (r .oldest-page) e erased) (a .running) refl word i true (λ q. a .gone)
+  due-inv i e false kept word =
+      completes-inv {x = wipedWorld kept} (books-wiped bk (r .oldest-page) e kept) (ended-kept bk r i slot) refl word i false (λ q. let z : _≡_ {A = ℕ} 0 1 = cc in absurd (omega arith))
+  due-inv i e false erased word =
+      completes-inv {x = wipedWorld erased} (books-wiped bk (r .oldest-page) e erased) (ended-erased bk r i e slot .running) refl word i false
+      (λ q. let z : _≡_ {A = ℕ} 0 1 = cc in absurd (omega arith))
+
+  -- an erase's completion, by what is under way
+  pub complete-inv : Inv w (x .log .geometry) (x .log .circular) x b → (s : State) (op : Operation) → x .log .state ≡ s
+      → Under w (x .log .geometry) (x .log .circular) x b (r .oldest-page) s op → (good : Bool) (left : Erased) (word : Word)
+      → After bk r (eraseStep w (x .log .geometry .p) (x .log .geometry .first) x op good left word)
+  complete-inv v Idle nothing i idle good left word = stray-inv bk r STRAY (ap unlessErasing i) good word
+  complete-inv v Read nothing i read good left word = stray-inv bk r STRAY (ap unlessErasing i) good word
+  complete-inv v Seek nothing i seek good left word = stray-inv bk r STRAY (ap unlessErasing i) good word
+  complete-inv v Erase nothing i stuck good left word =
+      subst (λ (q : Option ℕ). After bk r (strayStep x q (delivered (x .log .geometry .first) x unended (eraseCompletes w x good word) word))) (sym (ap unlessErasing i)) v
+  complete-inv v Erase (erasing s) i (erase e) good left word = due-inv i e good left word
+  complete-inv v Sync (writing s) i (sync a) good left word = stray-inv bk r STRAY (ap unlessErasing i) good word
+  complete-inv v Append (writing s) i (append a d) good left word = stray-inv bk r STRAY (ap unlessErasing i) good word
 
 -- the event erase keeps the invariant
 pub erase-step : {w : ℕ} (x : World) (b : Book) → Books w (x .log .geometry) (x .log .circular) (x .volume) b → Running w (x .log .geometry) (x .log .circular) x b → (word : Word)
@@ -340,3 +403,11 @@ erase-step {w} x b bk r word =
               (asked-under b (x .log .geometry .first) _ (r .oldest-page) (ap (slotOf (x .log .geometry .n)) (oldest-of bk r)) (x .operation) (under-nothing (idle-rests i) (r .under)) word);
         }
 
+-- the event erase completion keeps the invariant
+pub erase-complete-step : {w : ℕ} (x : World) (b : Book) → Inv w (x .log .geometry) (x .log .circular) x b → Running w (x .log .geometry) (x .log .circular) x b
+    → (good : Bool) (left : Erased) (word : Word)
+    → Inv w (x .log .geometry) (x .log .circular) (eraseStep w (x .log .geometry .p) (x .log .geometry .first) x (x .operation) good left word .world)
+    (note w (x .log .geometry) (x .log .circular) b (event.erase-complete good left word)
+    (eraseStep w (x .log .geometry .p) (x .log .geometry .first) x (x .operation) good left word .told))
+unfolding note
+erase-complete-step x b v r good left word = complete-inv (v .books) r v (x .log .state) (x .operation) refl (r .under) good left word
