@@ -151,7 +151,7 @@ module _ {w : ℕ} (x : World) (b : Book) (bk : Books w (x .log .geometry) (x .l
         let t' : fitsPage w (x .log) (length e) ≡ true = ap (fitsPage w (x .log)) long ∙ t in
         let good : Good w (g .p) e = record { some = omega (arith, long, ac .some-bytes); fits = omega (arith, long, ac .size); not-zero = clear .0; not-pad = clear .1 } in
         subst (λ (m : ℕ). stateFits w (stored w (x .log) m .log) ≡ true
-            → Inv w g (x .log .circular) (record { power = true; log = stored w (x .log) m .log; page = storedPage w (x .log) (x .page) e; hold = x .hold; volume = x .volume; operation = x .operation }) (withOpen b (joined (b .open-page) e)))
+        → Inv w g (x .log .circular) (record { power = true; log = stored w (x .log) m .log; page = storedPage w (x .log) (x .page) e; hold = x .hold; volume = x .volume; operation = x .operation }) (withOpen b (joined (b .open-page) e)))
         long
         (λ s'. record { books = books-join bk e good (stored-room bk r e t'); powered = stored-running bk r e t' (ac .idle) s' })
         s
@@ -249,7 +249,7 @@ module _ {w : ℕ} (x : World) (b : Book) (bk : Books w (x .log .geometry) (x .l
     unfolding stored flush
     passed-keeps true h clear s =
         subst (λ (op : Operation). Inv w g (x .log .circular)
-            (record { power = true; log = stored w (x .log) n .log; page = storedPage w (x .log) (x .page) e; hold = x .hold; volume = x .volume; operation = op }) (withOpen b (joined (b .open-page) e)))
+        (record { power = true; log = stored w (x .log) n .log; page = storedPage w (x .log) (x .page) e; hold = x .hold; volume = x .volume; operation = op }) (withOpen b (joined (b .open-page) e)))
         (sym (no-start (x .operation) word (g .first)))
         (stored-keeps h clear s)
     passed-keeps false h clear s = by-word word refl s

@@ -17,3 +17,4 @@ pub mod Reading
 pub mod CutStep
 pub mod RestartStep
 pub mod EraseStep
+pub mod Theorem
