@@ -1,16 +1,16 @@
 -- What a cut leaves: the book and the volume stay as one. The sizes and the mode are the log's own.
-use Prim.Native.Nat.{ℕ, _%_, _<_}
-use mathlib.Core.Path.{_≡_, refl, sym, ap, _∙_, subst}
-use mathlib.Core.Bool.{Bool, true, false}
+use Prim.Native.Nat.{ℕ}
+use mathlib.Core.Path.{_≡_, refl, sym, subst}
+use mathlib.Core.Bool.{Bool}
 use mathlib.Core.List.{List}
 use mathlib.Core.Option.{none}
 use native.Mathlib.Nat.{mod-lt}
 use Rattle.page.specs.Id.{slotOf}
 use Rattle.page.proofs.Kit.{facts}
 use Rattle.log.specs.Log.{Geometry, State}
-use Rattle.bench.specs.Flash.{Operation, nothing, writing, erasing, Left, old, blanked, new, Erased, kept, erased, blankSlot, afterWrite, afterErase}
+use Rattle.bench.specs.Flash.{Operation, erasing, Left, old, blanked, new, Erased, kept, erased, blankSlot, afterWrite, afterErase}
 use Rattle.bench.specs.Event as event
-use Rattle.bench.specs.World.{World, Ended, wrote, wiped, afterEnd, endedBy, Step, cutStep}
+use Rattle.bench.specs.World.{World, wrote, wiped, afterEnd, endedBy, cutStep}
 use Rattle.bench.specs.Book.{Book, withSlot, leftIn, note}
 use Rattle.bench.proofs.Invariant.{Books, Writes, Under, idle, read, seek, stuck, erase, sync, append, Running, Inv}
 use Rattle.bench.proofs.BookSteps.{books-blank, books-new}

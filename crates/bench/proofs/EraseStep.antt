@@ -1,5 +1,5 @@
 -- The events erase and erase completion keep the invariant. The sizes and the mode are the log's own.
-use Prim.Native.Nat.{ℕ, _+_, _*_, _-_, _/_, _%_, _≤_, _<_}
+use Prim.Native.Nat.{ℕ, _+_, _*_, _-_, _/_, _≤_, _<_}
 use mathlib.Core.Path.{_≡_, refl, sym, ap, _∙_, subst}
 use mathlib.Core.Bool.{Bool, true, false}
 use mathlib.Core.List.{List, []}
@@ -12,30 +12,28 @@ use lib.ListN.{length, replicate, length-replicate}
 use borrow.Author.Tests.{leb-true, leb-false}
 use Rattle.page.specs.Pick.{pick}
 use Rattle.page.specs.Id.{slotOf, firstId}
-use Rattle.page.specs.Layout.{pageLength}
 use Rattle.page.proofs.Kit.{Facts, facts, page-of, pages-lt}
 use Rattle.log.specs.Answer.{STRAY}
 use Rattle.log.specs.Answer as answer
-use Rattle.log.specs.Log.{Geometry, State, Idle, Read, Seek, Append, Sync, Erase, Log}
+use Rattle.log.specs.Log.{Geometry, State, Idle, Read, Seek, Append, Sync, Erase}
 use Rattle.log.specs.Check.{stateFits}
 use Rattle.log.proofs.Checks.{StateFits, state-fits, fits-state}
 use Rattle.call.specs.Outcome.{Outcome, Word, ok, busy, fail, orElse, refusal, unless, keep, moved}
-use Rattle.call.specs.Gate.{gate, unlessIdle, unlessSet, unlessErasing, unlessFree}
+use Rattle.call.specs.Gate.{gate, unlessIdle, unlessErasing, unlessFree}
 use Rattle.call.proofs.Checks.{or-none, is-idle}
 use Rattle.erasing.specs.Erase.{eraseStarts, eraseCall, lastErased, reset, readAfterBusy, erasesNext, eraseRuns, eraseBuffer, eraseChecks}
 use Rattle.engine.proofs.ErasesKeep.{erase-fits, erase-call-keeps}
-use Rattle.bench.specs.Flash.{Operation, nothing, writing, erasing, started, Left, new, Erased, kept, erased, blankSlot}
+use Rattle.bench.specs.Flash.{Operation, nothing, writing, erasing, started, new, Erased, kept, erased}
 use Rattle.bench.specs.Event as event
-use Rattle.bench.specs.Event.{eraseLeaves}
-use Rattle.bench.specs.World.{World, Ended, unended, wiped, silence, erasedSlot, Done, erases, eraseCompletes, Step, delivered, afterEnd, strayStep, eraseStep}
-use Rattle.bench.specs.Book.{Page, Book, emptyPage, withSlot, withOpen, leftIn, wipedAll, asked, note}
+use Rattle.bench.specs.World.{World, unended, erasedSlot, erases, eraseCompletes, Step, delivered, afterEnd, strayStep, eraseStep}
+use Rattle.bench.specs.Book.{Book, emptyPage, withSlot, withOpen, leftIn, wipedAll, asked, note}
 use Rattle.bench.proofs.Invariant.{Has, Books, Under, idle, read, seek, stuck, erase, sync, append, Running, Inv}
 use Rattle.bench.proofs.BookSteps.{has-left, has-back}
 use Rattle.bench.proofs.RestartKeeps.{allowed-zero, begins-zero}
 use Rattle.bench.proofs.EntryReads.{fits-shape, passes}
 use Rattle.bench.proofs.Appends.{some-length}
 use Rattle.bench.proofs.CutStep.{books-wiped}
-use Rattle.bench.proofs.Quiet.{withLog, quiet-refusal, running-quiet, no-start, under-nothing, idle-rests}
+use Rattle.bench.proofs.Quiet.{quiet-refusal, running-quiet, no-start, under-nothing, idle-rests}
 
 -- the book with another slot noted for an erase
 abbrev pub noting : Book → ℕ → Book
@@ -45,6 +43,7 @@ noting b s = record { slots = b .slots; open-page = b .open-page; waiting = b .w
 pub has-noted : {g : Geometry} {b : Book} {s m : ℕ} → Has g (noting b s) m → Has g b m
 has-noted h = record { page = h .page; there = h .there; number = h .number }
 
+-- and the other way
 pub has-noting : {g : Geometry} {b : Book} {s m : ℕ} → Has g b m → Has g (noting b s) m
 has-noting h = record { page = h .page; there = h .there; number = h .number }
 
@@ -115,6 +114,7 @@ pub record Wiped (w : ℕ) (g : Geometry) (circular : Bool) (x : World) (b : Boo
   pub running : Running w g circular x b
   pub gone : NoneOldest g b (running .oldest-page)
 
+-- a world with the power on
 module _ {w : ℕ} {x : World} {b : Book} (bk : Books w (x .log .geometry) (x .log .circular) (x .volume) b) (r : Running w (x .log .geometry) (x .log .circular) x b) where
   abbrev g : Geometry
   g = x .log .geometry
@@ -137,6 +137,7 @@ module _ {w : ℕ} {x : World} {b : Book} (bk : Books w (x .log .geometry) (x .l
   abbrev o : ℕ
   o = r .oldest-page
 
+  -- what the sizes tell
   f : Facts w p n
   f = facts (bk .sizes)
 
@@ -219,17 +220,21 @@ module _ {w : ℕ} {x : World} {b : Book} (bk : Books w (x .log .geometry) (x .l
 
   -- an erase goes on to the next page
   module _ (gone : NoneOldest g b o) (more : x .log .oldest + p < x .log .append) (free : x .operation ≡ nothing) where
+    -- the next page's ID
     next-is : x .log .oldest + p ≡ firstId p (o + 1) + w
     next-is = omega (arith, r .oldest)
 
+    -- its page is the one after the oldest
     next-of : (x .log .oldest + p) / p ≡ o + 1
     next-of = page-of (o + 1) {r = w} (omega (arith, f .page-words, f .word)) next-is
 
+    -- which is no later than the open page
     next-near : (o + 1 ≤ k) × (k ≤ o + 1 + n)
     next-near =
         let q : o + 1 < k + 1 = pages-lt (o + 1) (k + 1) p {x = x .log .oldest + p} (omega (arith, next-is)) (omega (arith, more, r .appends, bk .open-fits)) in
         (omega (arith, q), omega (arith, r .oldest-near .1))
 
+    -- no page before it is live
     next-live : (m : ℕ) → Has g b m → (o + 1 ≤ m) ⊎ ((m + n ≡ k) × (es ≡ [] → ⊥))
     next-live m h = go (r .live m h) (ℕ-discrete m o)
       where
@@ -274,6 +279,7 @@ module _ {w : ℕ} {x : World} {b : Book} (bk : Books w (x .log .geometry) (x .l
         Inv w g c (record { power = true; log = u .log; page = page'; hold = x .hold; volume = x .volume; operation = started (x .operation) (u .request) word (g .first) })
         (asked (wipedAll b (u .report)) (erasedSlot (g .first) (u .request)))
 
+    -- what it does keeps the invariant
     runs-inv : (good : Bool) → (good ≡ true → NoneOldest g b o) → Kept (eraseRuns w (x .log) good word) (eraseBuffer (x .log) good (x .page))
     runs-inv true gone = go (lastErased (x .log)) refl (erase-fits (x .log) (bk .sizes) (state-fits w (x .log) (r .fits)) true word)
       where
@@ -311,7 +317,7 @@ module _ {w : ℕ} {x : World} {b : Book} (bk : Books w (x .log .geometry) (x .l
       (record { outcome = unless q (x .log) (eraseRuns w (x .log) good word); page = keep q (x .page) (eraseBuffer (x .log) good (x .page)); hold = x .hold }) word))
       (sym check) (refused-inv a word))
 
-  -- the world in which the erase under way has ended: nothing is under way, in state Erase
+  -- the world in which the erase under way has left the old page: nothing is under way, in state Erase
   ended-kept : x .log .state ≡ Erase → (s : ℕ) → Running w g c (afterEnd p x (erasing s) new kept) b
   ended-kept i s = record {
     geometry = refl;
@@ -328,6 +334,7 @@ module _ {w : ℕ} {x : World} {b : Book} (bk : Books w (x .log .geometry) (x .l
     under = subst (λ (t : State). Under w g c (afterEnd p x (erasing s) new kept) b o t nothing) (sym i) stuck;
   }
 
+  -- the world in which it has left all 0xFF
   ended-erased : x .log .state ≡ Erase → b .erasing ≡ slotOf n o → (s : ℕ) → Wiped w g c (afterEnd p x (erasing s) new erased) (withSlot b (b .erasing) none)
   ended-erased i e s = record {
     running = record {
@@ -347,7 +354,7 @@ module _ {w : ℕ} {x : World} {b : Book} (bk : Books w (x .log .geometry) (x .l
     gone = λ m h q. has-left g b (b .erasing) m h .1 (q ∙ sym e);
   }
 
--- an erase under way has ended: its completion keeps the invariant
+-- an erase's completion in a world with the power on
 module _ {w : ℕ} {x : World} {b : Book} (bk : Books w (x .log .geometry) (x .log .circular) (x .volume) b) (r : Running w (x .log .geometry) (x .log .circular) x b) where
   abbrev slot : ℕ
   slot = slotOf (x .log .geometry .n) (r .oldest-page)
@@ -355,6 +362,7 @@ module _ {w : ℕ} {x : World} {b : Book} (bk : Books w (x .log .geometry) (x .l
   abbrev wipedWorld : Erased → World
   wipedWorld left = afterEnd (x .log .geometry .p) x (erasing slot) new left
 
+  -- the completion of the erase under way keeps the invariant
   due-inv : x .log .state ≡ Erase → b .erasing ≡ slot → (good : Bool) (left : Erased) (word : Word)
       → After bk r (eraseStep w (x .log .geometry .p) (x .log .geometry .first) x (erasing slot) good left word)
   due-inv i e true left word =
