@@ -1,53 +1,12 @@
 // An outcome, written out: the answer, the report, the request, the state, O, R, A and the kept length.
 use call::outcome::Outcome;
-use log::answer::Answer;
+use log::answer;
 use log::answer::Appended;
-use log::answer::Erased;
 use log::answer::Report;
 use log::answer::Request;
-use log::answer::Synced;
 use log::state::Log;
 use log::state::State;
 use say::print;
-
-fn number(answer: Answer) -> usize {
-    match answer {
-        Answer::OK => 0,
-        Answer::FAIL => 1,
-        Answer::BUSY => 2,
-        Answer::RESERVE => 5,
-        Answer::INVAL => 6,
-        Answer::SIZE => 7,
-        Answer::CANCEL => 8,
-        Answer::SHAPE => 20,
-        Answer::STATE => 21,
-        Answer::STRAY => 22,
-        Answer::LIMIT => 23,
-    }
-}
-
-fn appended(result: Appended) -> usize {
-    match result {
-        Appended::OK => 0,
-        Appended::FAIL => 1,
-        Appended::CANCEL => 8,
-    }
-}
-
-fn synced(result: Synced) -> usize {
-    match result {
-        Synced::OK => 0,
-        Synced::FAIL => 1,
-    }
-}
-
-fn erased(result: Erased) -> usize {
-    match result {
-        Erased::OK => 0,
-        Erased::FAIL => 1,
-        Erased::BUSY => 2,
-    }
-}
 
 fn flag(b: bool) -> usize {
     if b { 1 } else { 0 }
@@ -57,7 +16,7 @@ fn append_done(length: usize, lost: bool, result: Appended) {
     print::word(b"append_done");
     print::number(length);
     print::number(flag(lost));
-    print::number(appended(result));
+    print::number(answer::append_number(result));
 }
 
 fn done(text: &[u8], result: usize) {
@@ -75,8 +34,8 @@ fn report(r: Report) {
     match r {
         Report::Nothing => print::word(b"-"),
         Report::AppendDone(length, lost, result) => append_done(length, lost, result),
-        Report::SyncDone(result) => done(b"sync_done", synced(result)),
-        Report::EraseDone(result) => done(b"erase_done", erased(result)),
+        Report::SyncDone(result) => done(b"sync_done", answer::sync_number(result)),
+        Report::EraseDone(result) => done(b"erase_done", answer::erase_number(result)),
         Report::ReadDone(length) => read_done(length),
         Report::SeekDone => done(b"seek_done", 0),
     }
@@ -113,7 +72,7 @@ fn log(l: Log) {
 pub(crate) fn line(names: &[u8], k: usize, o: Outcome) -> Log {
     print::label(names, k);
     let answer = o.answer;
-    print::number(number(answer));
+    print::number(answer::answer_number(answer));
     let r = o.report;
     report(r);
     let q = o.request;

@@ -2,12 +2,10 @@
 use crate::text;
 use call::outcome::Outcome;
 use libc::STDOUT_FILENO;
-use log::answer::Answer;
+use log::answer;
 use log::answer::Appended;
-use log::answer::Erased;
 use log::answer::Report;
 use log::answer::Request;
-use log::answer::Synced;
 use log::state::Log;
 use log::state::State;
 
@@ -94,51 +92,11 @@ pub fn end(line: &mut [u8], at: usize) {
     io::write_all(STDOUT_FILENO, text::part(line, 0, stop));
 }
 
-// Document 01's numbers.
-fn answer_number(answer: Answer) -> usize {
-    match answer {
-        Answer::OK => 0,
-        Answer::FAIL => 1,
-        Answer::BUSY => 2,
-        Answer::RESERVE => 5,
-        Answer::INVAL => 6,
-        Answer::SIZE => 7,
-        Answer::CANCEL => 8,
-        Answer::SHAPE => 20,
-        Answer::STATE => 21,
-        Answer::STRAY => 22,
-        Answer::LIMIT => 23,
-    }
-}
-
-fn append_number(result: Appended) -> usize {
-    match result {
-        Appended::OK => 0,
-        Appended::FAIL => 1,
-        Appended::CANCEL => 8,
-    }
-}
-
-fn sync_number(result: Synced) -> usize {
-    match result {
-        Synced::OK => 0,
-        Synced::FAIL => 1,
-    }
-}
-
-fn erase_number(result: Erased) -> usize {
-    match result {
-        Erased::OK => 0,
-        Erased::FAIL => 1,
-        Erased::BUSY => 2,
-    }
-}
-
 fn append_report(line: &mut [u8], at: usize, length: usize, lost: bool, result: Appended) -> usize {
     let name = field(line, at, b"append_done");
     let size = number(line, name, length);
     let flag = number(line, size, if lost { 1 } else { 0 });
-    number(line, flag, append_number(result))
+    number(line, flag, answer::append_number(result))
 }
 
 // A name out of the list of those that a number follows, and the number.
@@ -152,8 +110,8 @@ fn report(line: &mut [u8], at: usize, report: Report) -> usize {
     match report {
         Report::Nothing => field(line, at, b"-"),
         Report::AppendDone(length, lost, result) => append_report(line, at, length, lost, result),
-        Report::SyncDone(result) => named(line, at, 0, sync_number(result)),
-        Report::EraseDone(result) => named(line, at, 1, erase_number(result)),
+        Report::SyncDone(result) => named(line, at, 0, answer::sync_number(result)),
+        Report::EraseDone(result) => named(line, at, 1, answer::erase_number(result)),
         Report::ReadDone(length) => read_report(line, at, length),
         Report::SeekDone => named(line, at, 3, 0),
     }
@@ -199,7 +157,7 @@ pub fn outcome(line: &mut [u8], at: usize, given: Outcome) -> usize {
     let answer = given.answer;
     let said = given.report;
     let asked = given.request;
-    let first = number(line, at, answer_number(answer));
+    let first = number(line, at, answer::answer_number(answer));
     let second = report(line, first, said);
     let third = request(line, second, asked);
     log_fields(line, third, given.log)
