@@ -19,3 +19,5 @@ pub mod EraseStep
 pub mod CutStep
 pub mod RestartStep
 pub mod Theorem
+pub mod Further
+pub mod Cases
