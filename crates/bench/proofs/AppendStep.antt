@@ -1,29 +1,26 @@
 -- The event append keeps the invariant. The sizes and the mode are the log's own.
-use Prim.Native.Nat.{ℕ, _+_, _*_, _-_, _%_, _≤_, _<_}
+use Prim.Native.Nat.{ℕ, _+_, _*_, _-_, _%_, _<_}
 use mathlib.Core.Path.{_≡_, refl, sym, ap, _∙_, subst}
 use mathlib.Core.Bool.{Bool, true, false, not, _&&_, _||_}
 use mathlib.Core.List.{List, []}
 use mathlib.Core.Logic.{_⊎_, inl, inr}
 use mathlib.Core.Option.{Option, none, some}
 use native.Mathlib.Omega.{arith}
-use native.Mathlib.Nat.{mod-lt}
 use lib.ListN.{length, take}
 use lib.Seq.{length-take-le}
 use lib.Dec.{eqb, ltb, leb}
 use borrow.Author.Tests.{ne-eqb}
 use Rattle.page.specs.Pick.{pick}
-use Rattle.page.specs.Sizes.{Width, ceiling}
-use Rattle.page.specs.Bytes.{overwrite, padByte}
-use Rattle.page.specs.Id.{slotOf, roundUp}
-use Rattle.page.specs.Slots.{slotBytes}
-use Rattle.page.specs.Layout.{pageLength, Good}
-use Rattle.page.proofs.Kit.{Facts, facts, rest-of}
+use Rattle.page.specs.Sizes.{ceiling}
+use Rattle.page.specs.Id.{roundUp}
+use Rattle.page.specs.Layout.{Good}
+use Rattle.page.proofs.Kit.{Facts, facts}
 use Rattle.page.proofs.Overwrites.{length-overwrite, overwrite-same}
-use Rattle.log.specs.Answer.{OK, LIMIT, append-done}
+use Rattle.log.specs.Answer.{OK, LIMIT}
 use Rattle.log.specs.Answer as answer
 use Rattle.log.specs.Log.{Geometry, State, Idle, Read, Seek, Append, Sync, Erase, Log}
 use Rattle.log.specs.Check.{shapeFits, stateFits}
-use Rattle.call.specs.Outcome.{Outcome, Word, ok, busy, fail, wordNumber, orElse, unless, keep, refusal}
+use Rattle.call.specs.Outcome.{Word, ok, busy, fail, orElse, unless, keep}
 use Rattle.call.specs.Gate.{gate, unlessIdle, unlessSet}
 use Rattle.call.proofs.Checks.{or-none}
 use Rattle.buffering.specs.Flush.{flush, flushedPage}
@@ -32,16 +29,16 @@ use Rattle.writing.specs.Append.{fitsPage, unlessLength, unlessSize, unlessRoom
 use Rattle.writing.proofs.AppendLaws.{Accepted, accepted}
 use Rattle.engine.proofs.WritesKeep.{append-keeps}
 use Rattle.engine.proofs.Openable.{append-may, unfit-page}
-use Rattle.bench.specs.Flash.{Operation, nothing, writing, started, blank}
-use Rattle.bench.specs.World.{World, Ended, unended, Heard, heard, Done, appends, Step, delivered}
-use Rattle.bench.specs.Book.{Page, Book, allowed, appended, withOpen, joined, note}
+use Rattle.bench.specs.Flash.{Operation, nothing}
+use Rattle.bench.specs.World.{World, unended, Done, appends, delivered}
+use Rattle.bench.specs.Book.{Book, appended, withOpen, joined, note}
 use Rattle.bench.specs.Event as event
 use Rattle.bench.specs.Promise.{doneEntry, entryOf, Clear}
-use Rattle.bench.proofs.Invariant.{Has, Books, Writes, Waits, Under, idle, append, Running, Inv}
-use Rattle.bench.proofs.BookSteps.{books-join}
-use Rattle.bench.proofs.Quiet.{withLog, quiet-refusal, running-quiet, no-start, under-nothing, under-rests, idle-rests}
-use Rattle.bench.proofs.Appends.{stored-room, stored-running, offset-open, may-next}
-use Rattle.bench.proofs.Flushes.{oldest-left, flushedWorld, flushed-running, flush-starts, flush-writes}
+use Rattle.bench.proofs.Invariant.{Books, Waits, Under, idle, append, Running, Inv}
+use Rattle.bench.proofs.BookSteps.{books-same, books-join}
+use Rattle.bench.proofs.Quiet.{no-start, refused-inv}
+use Rattle.bench.proofs.Appends.{stored-room, stored-running, offset-empty, may-next}
+use Rattle.bench.proofs.Flushes.{oldest-left, flushedWorld, flushed-running, flush-starts, flush-writes, busy-not, fail-not, flush-refused}
 
 -- a refusal is not the answer OK
 abbrev pub NotOK : Option ℕ → Type 0
@@ -83,13 +80,6 @@ not-ok-append w l volume page hold room n =
     (not-ok-else (unlessRoom w l n) _ (not-ok-pick (not (l .circular) && ltb (l .geometry .n * l .geometry .p) (l .append + n + w)) _ _ (λ e. omega arith) tt)
     (not-ok-else (unlessLimit w l n) _ (not-ok-pick (not (fitsPage w l n) && leb (ceiling w) (roundUp (l .geometry .p) (l .append))) (some LIMIT) none (λ e. omega arith) tt) (not-ok-set (l .append-client)))))))
 
--- a driver that refuses doesn't accept
-pub busy-not : busy ≡ ok → ⊥
-busy-not e = let z : _≡_ {A = ℕ} 0 2 = ap wordNumber (sym e) in omega arith
-
-pub fail-not : fail ≡ ok → ⊥
-fail-not e = let z : _≡_ {A = ℕ} 0 1 = ap wordNumber (sym e) in omega arith
-
 -- an append on a world
 module _ {w : ℕ} (x : World) (b : Book) (bk : Books w (x .log .geometry) (x .log .circular) (x .volume) b) (r : Running w (x .log .geometry) (x .log .circular) x b)
     (bytes : List ℕ) (n : ℕ) (word : Word) where
@@ -123,10 +113,7 @@ module _ {w : ℕ} (x : World) (b : Book) (bk : Books w (x .log .geometry) (x .l
   refused-keeps : (a : ℕ) → (a ≡ OK → ⊥) → Inv w g (x .log .circular) (worldBy (doneBy (some a))) (bookBy (doneBy (some a)))
   refused-keeps a d =
       let same : appended b e (some a) answer.nothing ≡ b = rw (ne-eqb a OK d) in
-      let still : Running w g (x .log .circular) (withLog x (x .log)) b = running-quiet r (refusal (x .log) a) (quiet-refusal (x .log) a) (r .fits) in
-      subst (λ (op : Operation). Inv w g (x .log .circular) (record { power = true; log = x .log; page = x .page; hold = x .hold; volume = x .volume; operation = op }) (appended b e (some a) answer.nothing))
-      (sym (no-start (x .operation) word (g .first)))
-      (subst (Inv w g (x .log .circular) (withLog x (x .log))) (sym same) (record { books = bk; powered = still }))
+      subst (Inv w g (x .log .circular) (worldBy (doneBy (some a)))) (sym same) (refused-inv bk r word a)
 
   -- it passed its checks
   module _ (pass : checks ≡ none) where
@@ -159,9 +146,7 @@ module _ {w : ℕ} (x : World) (b : Book) (bk : Books w (x .log .geometry) (x .l
     -- it doesn't: the open page has an entry
     full-some : fitsPage w (x .log) n ≡ false → b .open-page .entries ≡ [] → ⊥
     full-some u nil =
-        let size : pageLength w (b .open-page .entries) ≡ w = ap (pageLength w) nil ∙ omega arith in
-        let at : x .log .append % g .p ≡ w = offset-open bk r (omega (arith, f .page-words, f .word)) ∙ size in
-        go (unfit-page w (x .log) n u) at
+        go (unfit-page w (x .log) n u) (offset-empty bk r nil)
       where
         go : (x .log .append % g .p ≡ 0) ⊎ (g .p < x .log .append % g .p + (n + w)) → x .log .append % g .p ≡ w → ⊥
         go (inl z) at = omega (arith, f .word)
@@ -186,25 +171,7 @@ module _ {w : ℕ} (x : World) (b : Book) (bk : Books w (x .log .geometry) (x .l
     }
 
     books-waiting : Books w g (x .log .circular) (x .volume) waitingBook
-    books-waiting = record {
-      sizes = bk .sizes;
-      first = bk .first;
-      whole = bk .whole;
-      open-allowed = bk .open-allowed;
-      open-fits = bk .open-fits;
-      open-good = bk .open-good;
-      slots = bk .slots;
-      near = λ m h. bk .near m (plain m h);
-      gaps = λ m h j l u. again j (bk .gaps m (plain m h) j l u);
-      open-some = λ h. bk .open-some (plain _ h);
-    }
-      where
-        plain : (m : ℕ) → Has g waitingBook m → Has g b m
-        plain m h = record { page = h .page; there = h .there; number = h .number }
-
-        again : (j : ℕ) → Has g b j ⊎ (slotBytes (g .p) (slotOf (g .n) j) (x .volume) ≡ blank (g .p)) → Has g waitingBook j ⊎ (slotBytes (g .p) (slotOf (g .n) j) (x .volume) ≡ blank (g .p))
-        again j (inl h) = inl (record { page = h .page; there = h .there; number = h .number })
-        again j (inr h) = inr h
+    books-waiting = books-same waitingBook refl refl bk
 
     -- a flush that the driver accepts
     accepted-keeps : fitsPage w (x .log) n ≡ false → stateFits w (flush w (x .log) Append n ok .log) ≡ true
@@ -216,24 +183,6 @@ module _ {w : ℕ} (x : World) (b : Book) (bk : Books w (x .log .geometry) (x .l
           flushed-running bk r Append n ok (heldEntry (x .hold) e) waitingBook refl refl (full-some u) held-length s
           (subst (Under w g (x .log .circular) (flushedWorld bk r Append n ok (heldEntry (x .hold) e)) waitingBook (oldest-left bk r .page) Append) (sym (flush-starts bk r Append n))
           (append (flush-writes bk r Append n ok (heldEntry (x .hold) e) waitingBook refl (full-some u)) (waits u)));
-    }
-
-    -- a flush that the driver refuses
-    refused-flush : (no : Word) → (no ≡ ok → ⊥) → fitsPage w (x .log) n ≡ false → stateFits w (flush w (x .log) Append n no .log) ≡ true
-        → Inv w g (x .log .circular) (flushedWorld bk r Append n no (heldEntry (x .hold) e)) b
-    unfolding flush
-    refused-flush ok d u s = absurd (d refl)
-    refused-flush busy d u s = record {
-      books = bk;
-      powered =
-          flushed-running bk r Append n busy (heldEntry (x .hold) e) b refl refl (full-some u) held-length s
-          (under-rests (idle-rests refl) (under-nothing (idle-rests (ac .idle)) (r .under)));
-    }
-    refused-flush fail d u s = record {
-      books = bk;
-      powered =
-          flushed-running bk r Append n fail (heldEntry (x .hold) e) b refl refl (full-some u) held-length s
-          (under-rests (idle-rests refl) (under-nothing (idle-rests (ac .idle)) (r .under)));
     }
 
     -- the call that passed, with the two tests of whether the entry fits
@@ -258,9 +207,9 @@ module _ {w : ℕ} (x : World) (b : Book) (bk : Books w (x .log .geometry) (x .l
         by-word ok i s' = subst (λ (v : Word). stateFits w (flush w (x .log) Append n v .log) ≡ true
             → Inv w g (x .log .circular) (flushedWorld bk r Append n v (heldEntry (x .hold) e)) (appended b e (some (flush w (x .log) Append n v .answer)) answer.nothing)) i (λ a. accepted-keeps h a) s'
         by-word busy i s' = subst (λ (v : Word). stateFits w (flush w (x .log) Append n v .log) ≡ true
-            → Inv w g (x .log .circular) (flushedWorld bk r Append n v (heldEntry (x .hold) e)) (appended b e (some (flush w (x .log) Append n v .answer)) answer.nothing)) i (λ a. refused-flush busy busy-not h a) s'
+            → Inv w g (x .log .circular) (flushedWorld bk r Append n v (heldEntry (x .hold) e)) (appended b e (some (flush w (x .log) Append n v .answer)) answer.nothing)) i (λ a. record { books = bk; powered = flush-refused bk r Append n busy busy-not (heldEntry (x .hold) e) (ac .idle) (full-some h) held-length a }) s'
         by-word fail i s' = subst (λ (v : Word). stateFits w (flush w (x .log) Append n v .log) ≡ true
-            → Inv w g (x .log .circular) (flushedWorld bk r Append n v (heldEntry (x .hold) e)) (appended b e (some (flush w (x .log) Append n v .answer)) answer.nothing)) i (λ a. refused-flush fail fail-not h a) s'
+            → Inv w g (x .log .circular) (flushedWorld bk r Append n v (heldEntry (x .hold) e)) (appended b e (some (flush w (x .log) Append n v .answer)) answer.nothing)) i (λ a. record { books = bk; powered = flush-refused bk r Append n fail fail-not (heldEntry (x .hold) e) (ac .idle) (full-some h) held-length a }) s'
 
     pub accepted-append : Clear (doneEntry (doneBy none .outcome .report) e) → Inv w g (x .log .circular) (worldBy (doneBy none)) (bookBy (doneBy none))
     unfolding appendRuns appendPage appendHold

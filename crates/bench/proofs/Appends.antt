@@ -1,41 +1,34 @@
 -- An append that is stored, and a flush: what they keep with the power on. The sizes and the mode are the log's own.
 use Prim.Native.Nat.{ℕ, _+_, _*_, _-_, _/_, _%_, _≤_, _<_}
-use mathlib.Core.Path.{_≡_, refl, sym, ap, _∙_, subst}
-use mathlib.Core.Bool.{Bool, true, false}
+use mathlib.Core.Path.{_≡_, refl, sym, ap, _∙_}
+use mathlib.Core.Bool.{Bool, true}
 use mathlib.Core.List.{List, [], _∷_, _++_}
 use mathlib.Core.Logic.{_⊎_, inl, inr}
-use mathlib.Core.Option.{Option, none, some}
 use native.Mathlib.Omega.{arith}
 use native.Mathlib.Nat.{mul-mod-left}
 use native.Mathlib.Decide.{decLt}
 use lib.ListN.{length, take}
 use lib.Dec.{ltb, leb}
 use borrow.Author.Tests.{lt-ltb, le-ltb, le-leb, lt-leb}
-use Rattle.page.specs.Pick.{pick}
-use Rattle.page.specs.Sizes.{Sizes, ceiling}
-use Rattle.page.specs.Id.{offsetOf, firstId, roundUp}
+use Rattle.page.specs.Id.{offsetOf, roundUp}
 use Rattle.page.specs.Bytes.{overwrite, padded}
-use Rattle.page.specs.Flush.{overwritten}
-use Rattle.page.specs.Layout.{encode, entriesLength, pageLength, encodePage, wholePage, Good}
+use Rattle.page.specs.Layout.{encode, pageLength, encodePage, wholePage}
 use Rattle.page.proofs.Kit.{Facts, facts, page-of, rest-of, full, rounded, round-first, round-next}
 use Rattle.page.proofs.Overwrites.{length-overwrite}
-use Rattle.page.proofs.Pages.{length-encode, entriesLength-append, begins-entry, begins-padded, begins-whole, length-wholePage}
-use Rattle.log.specs.Log.{Geometry, State, Idle, Log}
+use Rattle.page.proofs.Pages.{length-encode, entriesLength-append, begins-entry, begins-padded}
+use Rattle.log.specs.Log.{Geometry, Idle}
 use Rattle.log.specs.Check.{stateFits}
 use Rattle.log.specs.Open.{mayOpen}
-use Rattle.log.proofs.Checks.{StateFits, state-fits}
-use Rattle.call.specs.Outcome.{Word, ok, busy, fail}
-use Rattle.buffering.specs.Flush.{lastPage, flushedPage, lostPage, movedOldest}
+use Rattle.buffering.specs.Flush.{lastPage, flushedPage}
 use Rattle.buffering.specs.Store.{stored, storedPage}
 use Rattle.writing.specs.Append.{fitsPage}
 use Rattle.writing.proofs.AppendLaws.{fits-page}
-use Rattle.bench.specs.Flash.{Operation, nothing, writing, erasing}
 use Rattle.bench.specs.World.{World}
-use Rattle.bench.specs.Book.{Page, Book, allowed, withOpen, joined}
-use Rattle.bench.proofs.Invariant.{Has, Books, Writes, Under, Running}
-use Rattle.bench.proofs.BookSteps.{allowed-first, not-nil}
+use Rattle.bench.specs.Book.{Book, allowed, withOpen, joined}
+use Rattle.bench.proofs.Invariant.{Books, Running}
+use Rattle.bench.proofs.BookSteps.{not-nil}
 use Rattle.bench.proofs.RestartKeeps.{may-allowed}
-use Rattle.bench.proofs.Quiet.{Rests, under-nothing, under-rests, idle-rests}
+use Rattle.bench.proofs.Quiet.{under-nothing, under-rests, idle-rests}
 
 -- how long a page is with one entry more
 pub longer : (w : ℕ) (es : List (List ℕ)) (e : List ℕ) → pageLength w (es ++ (e ∷ [])) ≡ pageLength w es + w + length e
@@ -76,6 +69,16 @@ module _ {w : ℕ} {x : World} {b : Book} (bk : Books w (x .log .geometry) (x .l
   -- A's offset is the length of the open page, which isn't full
   pub offset-open : pageLength w es < p → offsetOf p (x .log .append) ≡ pageLength w es
   offset-open h = rest-of (b .open-page .number) h (r .appends)
+
+  -- an empty open page is as long as its header
+  pub offset-empty : es ≡ [] → offsetOf p (x .log .append) ≡ w
+  offset-empty nil =
+      let size : pageLength w es ≡ w = ap (pageLength w) nil ∙ omega arith in
+      offset-open (omega (arith, f .page-words, f .word)) ∙ size
+
+  -- O's page is the oldest
+  pub oldest-of : x .log .oldest / p ≡ r .oldest-page
+  oldest-of = page-of (r .oldest-page) {r = w} (omega (arith, f .page-words, f .word)) (r .oldest)
 
   -- the last byte's page is the open page, and its offset the last of the page's bytes
   last-byte : x .log .append - 1 ≡ b .open-page .number * p + (pageLength w es - 1)

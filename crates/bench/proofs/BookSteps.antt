@@ -1,5 +1,5 @@
 -- What an operation leaves and what joins keep of the book and the volume: one law for each way in which the book changes.
-use Prim.Native.Nat.{ℕ, _+_, _*_, _%_, _≤_, _<_}
+use Prim.Native.Nat.{ℕ, _+_, _*_, _≤_, _<_}
 use mathlib.Core.Path.{_≡_, refl, sym, ap, _∙_, subst}
 use mathlib.Core.Bool.{Bool, true, false, _||_}
 use mathlib.Core.List.{List, [], _∷_, _++_}
@@ -9,23 +9,22 @@ use native.Mathlib.Omega.{arith}
 use native.Mathlib.Nat.{mod-lt}
 use native.Mathlib.Decide.{ℕ-discrete, decLt}
 use lib.ListN.{length, length-append}
-use lib.Dec.{eqb, ltb}
-use borrow.Author.Tests.{eq-eqb, ne-eqb, le-leb, ltb-true}
-use Rattle.page.specs.Pick.{pick}
+use lib.Dec.{ltb}
+use borrow.Author.Tests.{eq-eqb, ne-eqb, le-leb, ltb-true, lt-ltb}
 use Rattle.page.specs.Sizes.{Sizes, ceiling}
 use Rattle.page.specs.Id.{slotOf, firstId}
 use Rattle.page.specs.Slots.{slotBytes, putSlot}
-use Rattle.page.specs.Header.{header}
 use Rattle.page.specs.Layout.{wholePage, pageLength, AllGood, Good}
 use Rattle.page.proofs.Kit.{Facts, facts, same-slot, pages-le, both}
 use Rattle.page.proofs.Headers as headers
 use Rattle.page.proofs.Slots.{length-put, put-same, put-other, header-slots}
 use Rattle.page.proofs.Pages.{length-wholePage}
-use Rattle.log.specs.Log.{Geometry}
-use Rattle.bench.specs.Flash.{slotFits, inSlot, blank, blankSlot}
-use Rattle.bench.specs.Book.{Page, Book, allowed, withSlot, withOpen, emptyPage, joined}
+use Rattle.log.specs.Log.{Geometry, State}
+use Rattle.bench.specs.Flash.{Operation, Left, old, blanked, new, Erased, kept, erased, slotFits, inSlot, blank, blankSlot, afterWrite, afterErase}
+use Rattle.bench.specs.World.{World, wrote, wiped, afterEnd, endedBy}
+use Rattle.bench.specs.Book.{Page, Book, allowed, withSlot, withOpen, emptyPage, joined, leftIn}
 use Rattle.bench.proofs.Slots.{in-slot, length-blank}
-use Rattle.bench.proofs.Invariant.{Holds, SlotHolds, Has, Books}
+use Rattle.bench.proofs.Invariant.{SlotHolds, Has, Books, Writes, Under, idle, read, seek, stuck, erase, sync, append}
 
 -- what the book says of a slot after one slot changed
 module _ (b : Book) (s : ℕ) (x : Option Page) where
@@ -41,6 +40,58 @@ pub holds-same : (w : ℕ) (g : Geometry) (volume other : List ℕ) (s : ℕ) �
 holds-same w g volume other s z none e h = let f = facts z in header-slots w (g .p) (g .n) volume other s (omega arith) e ∙ h
 holds-same w g volume other s z (some k) e h =
     record { slot = h .slot; below = h .below; some-entry = h .some-entry; good = h .good; fits = h .fits; bytes = e ∙ h .bytes }
+
+-- the page 0 is allowed
+pub allowed-zero : {w : ℕ} (g : Geometry) (circular : Bool) → Sizes w (g .p) (g .n) → allowed w g circular 0 ≡ true
+allowed-zero {w} g circular z =
+    let f = facts z in
+    let low : ltb (0 * g .p) (ceiling w) ≡ true = lt-ltb (0 * g .p) (ceiling w) (omega (arith, f)) in
+    rw (low, go circular (lt-ltb 0 (g .n) (f .count)))
+  where
+    go : (c : Bool) → ltb 0 (g .n) ≡ true → (c || ltb 0 (g .n)) ≡ true
+    go true q = refl
+    go false q = q
+
+-- which pages the book has depends on its slots alone
+pub has-same : {g : Geometry} {b b' : Book} {m : ℕ} → b' .slots ≡ b .slots → Has g b' m → Has g b m
+has-same {g} {m = m} e h = record { page = h .page; there = ap (λ (t : ℕ → Option Page). t (slotOf (g .n) m)) (sym e) ∙ h .there; number = h .number }
+
+-- and so does having it or else
+pub gap-same : {g : Geometry} {b b' : Book} {j : ℕ} {A : Type 0} → b' .slots ≡ b .slots → Has g b' j ⊎ A → Has g b j ⊎ A
+gap-same e (inl h) = inl (has-same e h)
+gap-same e (inr a) = inr a
+
+-- what holds of the book and the volume depends on its slots and its open page alone
+pub books-same : {w : ℕ} {g : Geometry} {circular : Bool} {volume : List ℕ} {b : Book} (b' : Book) → b' .slots ≡ b .slots → b' .open-page ≡ b .open-page
+    → Books w g circular volume b → Books w g circular volume b'
+books-same {w} {g} {circular} {volume} {b} b' es eo bk = record {
+  sizes = bk .sizes;
+  first = bk .first;
+  whole = bk .whole;
+  open-allowed = subst (λ (k : Page). allowed w g circular (k .number) ≡ true) (sym eo) (bk .open-allowed);
+  open-fits = subst (λ (k : Page). pageLength w (k .entries) ≤ g .p) (sym eo) (bk .open-fits);
+  open-good = subst (λ (k : Page). AllGood w (g .p) (k .entries)) (sym eo) (bk .open-good);
+  slots = subst (λ (t : ℕ → Option Page). (s : ℕ) → s < g .n → SlotHolds w g volume s (t s)) (sym es) (bk .slots);
+  near = λ m h. subst (λ (k : Page). (m ≤ k .number) × (k .number ≤ m + g .n)) (sym eo) (bk .near m (has-same es h));
+  gaps = λ m h j l u. gap-same (sym es) (bk .gaps m (has-same es h) j l (subst (λ (k : Page). j < k .number) eo u));
+  open-some = λ h. subst (λ (k : Page). k .entries ≡ [] → ⊥) (sym eo) (bk .open-some (subst (λ (k : Page). Has g b (k .number)) eo (has-same es h)));
+}
+
+-- a book that has no page, with the empty page 0 open
+pub books-none : {w : ℕ} {g : Geometry} (circular : Bool) {volume : List ℕ} {b : Book} → Sizes w (g .p) (g .n) → g .first ≤ 16_777_215 → length volume ≡ g .n * g .p
+    → ((s : ℕ) → s < g .n → SlotHolds w g volume s (b .slots s)) → ((m : ℕ) → Has g b m → ⊥) → Books w g circular volume (withOpen b (emptyPage 0))
+books-none {w} {g} circular {volume} {b} z first whole slots none-there = record {
+  sizes = z;
+  first = first;
+  whole = whole;
+  open-allowed = allowed-zero g circular z;
+  open-fits = let f = facts z in omega arith;
+  open-good = tt;
+  slots = slots;
+  near = λ m h. absurd (none-there m (has-same refl h));
+  gaps = λ m h. absurd (none-there m (has-same refl h));
+  open-some = λ h. absurd (none-there 0 (has-same refl h));
+}
 
 -- a book with one slot changed
 module _ (g : Geometry) (b : Book) (s : ℕ) where
@@ -209,18 +260,6 @@ books-new {w} {g} {circular} {volume} {b} bk some-entry page e = record {
 
 -- another open page with the same slots
 module _ {w : ℕ} {g : Geometry} {circular : Bool} {volume : List ℕ} {b : Book} (bk : Books w g circular volume b) where
-  -- the pages that the book has don't depend on the open page
-  pub has-back : (k : Page) (m : ℕ) → Has g (withOpen b k) m → Has g b m
-  has-back k m h = record { page = h .page; there = h .there; number = h .number }
-
-  pub has-on : (k : Page) (m : ℕ) → Has g b m → Has g (withOpen b k) m
-  has-on k m h = record { page = h .page; there = h .there; number = h .number }
-
-  gap-on : (k : Page) (j : ℕ) → Has g b j ⊎ (slotBytes (g .p) (slotOf (g .n) j) volume ≡ blank (g .p))
-      → Has g (withOpen b k) j ⊎ (slotBytes (g .p) (slotOf (g .n) j) volume ≡ blank (g .p))
-  gap-on k j (inl h) = inl (has-on k j h)
-  gap-on k j (inr e) = inr e
-
   -- an entry joins the open page
   pub books-join : (e : List ℕ) → Good w (g .p) e → pageLength w (b .open-page .entries ++ (e ∷ [])) ≤ g .p → Books w g circular volume (withOpen b (joined (b .open-page) e))
   books-join e good fits = record {
@@ -231,8 +270,8 @@ module _ {w : ℕ} {g : Geometry} {circular : Bool} {volume : List ℕ} {b : Boo
     open-fits = fits;
     open-good = good-append (b .open-page .entries) e (bk .open-good) good;
     slots = bk .slots;
-    near = λ m h. bk .near m (has-back _ m h);
-    gaps = λ m h j l u. gap-on _ j (bk .gaps m (has-back _ m h) j l u);
+    near = λ m h. bk .near m (has-same refl h);
+    gaps = λ m h j l u. gap-same refl (bk .gaps m (has-same refl h) j l u);
     open-some = λ h i. not-nil (b .open-page .entries) e i;
   }
 
@@ -247,11 +286,37 @@ module _ {w : ℕ} {g : Geometry} {circular : Bool} {volume : List ℕ} {b : Boo
     open-fits = let f = facts (bk .sizes) in omega arith;
     open-good = tt;
     slots = bk .slots;
-    near = λ m h. (let n = bk .near m (has-back _ m h) in omega (arith, n .0), room m (has-back _ m h));
-    gaps = λ m h j l u. gap-on _ j (by-last m (has-back _ m h) j l (ℕ-discrete j (b .open-page .number)) u);
-    open-some = λ h i. let n = bk .near _ (has-back _ _ h) in absurd (omega (arith, n .0));
+    near = λ m h. (let n = bk .near m (has-same refl h) in omega (arith, n .0), room m (has-same refl h));
+    gaps = λ m h j l u. gap-same refl (by-last m (has-same refl h) j l (ℕ-discrete j (b .open-page .number)) u);
+    open-some = λ h i. let n = bk .near _ (has-same refl h) in absurd (omega (arith, n .0));
   }
     where
       by-last : (m : ℕ) → Has g b m → (j : ℕ) → m ≤ j → Dec (j ≡ b .open-page .number) → j < b .open-page .number + 1 → Has g b j ⊎ (slotBytes (g .p) (slotOf (g .n) j) volume ≡ blank (g .p))
       by-last m h j l (yes e) u = inl (subst (Has g b) (sym e) there)
       by-last m h j l (no d) u = bk .gaps m h j l (omega (arith, d))
+
+-- what an erase of the slot that the book noted leaves
+pub books-wiped : {w : ℕ} {g : Geometry} {circular : Bool} {volume : List ℕ} {b : Book} → Books w g circular volume b → (o : ℕ) → b .erasing ≡ slotOf (g .n) o → (wipe : Erased)
+    → Books w g circular (afterErase (g .p) (slotOf (g .n) o) wipe volume) (leftIn (g .n) b (wiped wipe))
+books-wiped bk o e kept = bk
+books-wiped {w} {g} {circular} {volume} {b} bk o e erased =
+    subst (λ (s : ℕ). Books w g circular (blankSlot (g .p) (slotOf (g .n) o) volume) (withSlot b s none)) (sym e)
+    (books-blank bk (slotOf (g .n) o) (mod-lt o (facts (bk .sizes) .count)))
+
+-- what a write of the open page leaves
+pub books-wrote : {w : ℕ} {g : Geometry} {circular : Bool} {x : World} {b : Book} {oldest : ℕ} → Books w g circular (x .volume) b → Writes w g x b oldest → (left : Left)
+    → Books w g circular (afterWrite (g .p) (slotOf (g .n) (b .open-page .number)) (x .page) left (x .volume)) (leftIn (g .n) b (wrote left))
+books-wrote bk a old = bk
+books-wrote {g = g} {b = b} bk a blanked = books-blank bk (slotOf (g .n) (b .open-page .number)) (mod-lt (b .open-page .number) (facts (bk .sizes) .count))
+books-wrote {x = x} bk a new = books-new bk (a .some-entry) (x .page) (a .bytes)
+
+-- what any operation that is under way leaves
+pub books-ended : {w : ℕ} {g : Geometry} {circular : Bool} {x : World} {b : Book} {oldest : ℕ} {s : State} {op : Operation} → Books w g circular (x .volume) b
+    → Under w g circular x b oldest s op → (left : Left) (wipe : Erased) → Books w g circular (afterEnd (g .p) x op left wipe .volume) (leftIn (g .n) b (endedBy op left wipe))
+books-ended bk idle left wipe = bk
+books-ended bk read left wipe = bk
+books-ended bk seek left wipe = bk
+books-ended bk stuck left wipe = bk
+books-ended {oldest = oldest} bk (erase e) left wipe = books-wiped bk oldest e wipe
+books-ended bk (sync a) left wipe = books-wrote bk a left
+books-ended bk (append a c) left wipe = books-wrote bk a left

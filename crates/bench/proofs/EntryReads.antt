@@ -4,50 +4,24 @@ use mathlib.Core.Path.{_≡_, refl, sym, subst}
 use mathlib.Core.Bool.{Bool, true}
 use mathlib.Core.List.{List, [], _∷_}
 use mathlib.Core.Logic.{_⊎_}
-use mathlib.Core.Option.{none, some}
+use mathlib.Core.Option.{none}
 use native.Mathlib.Omega.{arith}
 use lib.ListN.{length}
-use borrow.Author.Tests.{le-ltb, le-leb, eq-eqb}
-use Rattle.page.specs.Sizes.{Sizes, ceiling}
+use borrow.Author.Tests.{le-ltb}
+use Rattle.page.specs.Sizes.{ceiling}
 use Rattle.page.specs.Answered.{gives, refuses}
 use Rattle.page.specs.Held.{bytesAt, nextEntry, entryLength}
 use Rattle.page.proofs.Overwrites.{overwrite-same}
 use Rattle.log.specs.Answer.{FAIL}
 use Rattle.log.specs.Log.{Geometry, State, Idle, Read, Log}
-use Rattle.log.specs.Check.{sizesFit, shapeFits, keptFits, stateFits}
+use Rattle.log.specs.Check.{shapeFits, keptFits}
 use Rattle.log.proofs.Checks.{StateFits, fits-state}
 use Rattle.call.specs.Outcome.{Outcome}
 use Rattle.call.specs.Gate.{gate}
 use Rattle.reading.specs.Read.{readRefusal, readRuns, readBuffer, readChecks, Reads}
 use Rattle.reading.specs.Deferred.{deferred}
 use Rattle.bench.specs.Promise.{ReadEntry, ReadsOn, ends, goes}
-
--- sizes that fit pass the test of them
-pub fits-sizes : {w : ℕ} (g : Geometry) → Sizes w (g .p) (g .n) → g .first ≤ 16_777_215 → sizesFit w g ≡ true
-unfolding sizesFit
-fits-sizes {w} g z h =
-    let a = le-leb _ _ (z .page .least) in
-    let b = le-leb _ _ (z .page .most) in
-    let c = eq-eqb _ _ (z .page .divides) in
-    let d = le-leb _ _ (z .some) in
-    let e = le-leb _ _ (z .few) in
-    rw (a, b, c, d, e) (le-leb _ _ h)
-
--- so do a volume and buffers
-pub fits-shape : {w : ℕ} (g : Geometry) (volume page hold : ℕ) → Sizes w (g .p) (g .n) → g .first ≤ 16_777_215
-    → volume ≡ g .n * g .p → page ≡ g .p → hold ≡ g .p → shapeFits w g volume page hold ≡ true
-unfolding shapeFits
-fits-shape {w} g volume page hold z h v p q =
-    let a = fits-sizes g z h in
-    let b = eq-eqb _ _ v in
-    let c = eq-eqb _ _ p in
-    rw (a, b, c) (eq-eqb _ _ q)
-
--- the gate passes a shape and a state that fit
-pub passes : (w : ℕ) (l : Log) (volume page hold : ℕ) → shapeFits w (l .geometry) volume page hold ≡ true → stateFits w l ≡ true
-    → gate w l volume page hold ≡ none
-unfolding gate
-passes w l volume page hold s t = rw (s, t)
+use Rattle.bench.proofs.Gates.{passes}
 
 -- a log with the read client set: its state, its read ID and its kept length vary as it is read
 abbrev pub logAt : Geometry → Bool → Bool → ℕ → ℕ → State → ℕ → ℕ → Log

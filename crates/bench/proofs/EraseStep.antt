@@ -18,7 +18,7 @@ use Rattle.log.specs.Answer as answer
 use Rattle.log.specs.Log.{Geometry, State, Idle, Read, Seek, Append, Sync, Erase}
 use Rattle.log.specs.Check.{stateFits}
 use Rattle.log.proofs.Checks.{StateFits, state-fits, fits-state}
-use Rattle.call.specs.Outcome.{Outcome, Word, ok, busy, fail, orElse, refusal, unless, keep, moved}
+use Rattle.call.specs.Outcome.{Outcome, Word, ok, busy, fail, orElse, unless, keep, moved}
 use Rattle.call.specs.Gate.{gate, unlessIdle, unlessErasing, unlessFree}
 use Rattle.call.proofs.Checks.{or-none, is-idle}
 use Rattle.erasing.specs.Erase.{eraseStarts, eraseCall, lastErased, reset, readAfterBusy, erasesNext, eraseRuns, eraseBuffer, eraseChecks}
@@ -26,45 +26,17 @@ use Rattle.engine.proofs.ErasesKeep.{erase-fits, erase-call-keeps}
 use Rattle.bench.specs.Flash.{Operation, nothing, writing, erasing, started, new, Erased, kept, erased}
 use Rattle.bench.specs.Event as event
 use Rattle.bench.specs.World.{World, unended, erasedSlot, erases, eraseCompletes, Step, delivered, afterEnd, strayStep, eraseStep}
-use Rattle.bench.specs.Book.{Book, emptyPage, withSlot, withOpen, leftIn, wipedAll, asked, note}
+use Rattle.bench.specs.Book.{Page, Book, emptyPage, withSlot, withOpen, leftIn, wipedAll, asked, note}
 use Rattle.bench.proofs.Invariant.{Has, Books, Under, idle, read, seek, stuck, erase, sync, append, Running, Inv}
-use Rattle.bench.proofs.BookSteps.{has-left, has-back}
-use Rattle.bench.proofs.RestartKeeps.{allowed-zero, begins-zero}
-use Rattle.bench.proofs.EntryReads.{fits-shape, passes}
-use Rattle.bench.proofs.Appends.{some-length}
-use Rattle.bench.proofs.CutStep.{books-wiped}
-use Rattle.bench.proofs.Quiet.{quiet-refusal, running-quiet, no-start, under-nothing, idle-rests}
+use Rattle.bench.proofs.BookSteps.{has-same, has-left, books-same, books-none, books-wiped}
+use Rattle.bench.proofs.RestartKeeps.{begins-zero}
+use Rattle.bench.proofs.Gates.{gate-passes}
+use Rattle.bench.proofs.Appends.{oldest-of, some-length}
+use Rattle.bench.proofs.Quiet.{no-start, under-nothing, idle-rests, refused-inv, stray-inv as strays}
 
 -- the book with another slot noted for an erase
 abbrev pub noting : Book → ℕ → Book
 noting b s = record { slots = b .slots; open-page = b .open-page; waiting = b .waiting; erasing = s }
-
--- which pages the book has doesn't depend on it
-pub has-noted : {g : Geometry} {b : Book} {s m : ℕ} → Has g (noting b s) m → Has g b m
-has-noted h = record { page = h .page; there = h .there; number = h .number }
-
--- and the other way
-pub has-noting : {g : Geometry} {b : Book} {s m : ℕ} → Has g b m → Has g (noting b s) m
-has-noting h = record { page = h .page; there = h .there; number = h .number }
-
--- nor does what holds of the book and the volume
-pub books-noting : {w : ℕ} {g : Geometry} {circular : Bool} {volume : List ℕ} {b : Book} → Books w g circular volume b → (s : ℕ) → Books w g circular volume (noting b s)
-books-noting {w} {g} {circular} {volume} {b} bk s = record {
-  sizes = bk .sizes;
-  first = bk .first;
-  whole = bk .whole;
-  open-allowed = bk .open-allowed;
-  open-fits = bk .open-fits;
-  open-good = bk .open-good;
-  slots = bk .slots;
-  near = λ m h. bk .near m (has-noted h);
-  gaps = λ m h j l u. on j (bk .gaps m (has-noted h) j l u);
-  open-some = λ h. bk .open-some (has-noted h);
-}
-  where
-    on : {A : Type 0} (j : ℕ) → Has g b j ⊎ A → Has g (noting b s) j ⊎ A
-    on j (inl h) = inl (has-noting h)
-    on j (inr e) = inr e
 
 -- a world with another state, other IDs O and R, and another operation
 abbrev pub turned : World → State → ℕ → ℕ → Operation → World
@@ -88,7 +60,7 @@ turned-running r s state oldest at op fits o is near live under = record {
   oldest-page = o;
   oldest = is;
   oldest-near = near;
-  live = λ m h. live m (has-noted h);
+  live = λ m h. live m (has-same refl h);
   under = under;
 }
 
@@ -137,29 +109,13 @@ module _ {w : ℕ} {x : World} {b : Book} (bk : Books w (x .log .geometry) (x .l
   abbrev o : ℕ
   o = r .oldest-page
 
+  -- the book with other slots
+  abbrev withSlots : (ℕ → Option Page) → Book
+  withSlots slots = record { slots = slots; open-page = b .open-page; waiting = b .waiting; erasing = b .erasing }
+
   -- what the sizes tell
   f : Facts w p n
   f = facts (bk .sizes)
-
-  -- a call that is refused leaves all as it was
-  pub refused-inv : (a : ℕ) (word : Word)
-      → Inv w g c (record { power = true; log = x .log; page = x .page; hold = x .hold; volume = x .volume; operation = started (x .operation) answer.none word (g .first) }) b
-  refused-inv a word = record {
-    books = bk;
-    powered =
-        subst (λ (op : Operation). Running w g c (record { power = true; log = x .log; page = x .page; hold = x .hold; volume = x .volume; operation = op }) b)
-        (sym (no-start (x .operation) word (g .first))) (running-quiet r (refusal (x .log) a) (quiet-refusal (x .log) a) (r .fits));
-  }
-
-  -- O's page is the oldest
-  pub oldest-of : x .log .oldest / g .p ≡ r .oldest-page
-  oldest-of = page-of (r .oldest-page) {r = w} (omega (arith, f .page-words, f .word)) (r .oldest)
-
-  -- the gate passes
-  pub gate-passes : gate w (x .log) (length (x .volume)) (length (x .page)) (length (x .hold)) ≡ none
-  gate-passes =
-      passes w (x .log) (length (x .volume)) (length (x .page)) (length (x .hold))
-      (fits-shape g (length (x .volume)) (length (x .page)) (length (x .hold)) (bk .sizes) (bk .first) (bk .whole) (r .page-length) (r .hold-length)) (r .fits)
 
   -- where the last page was erased, the book has no page
   none-left : NoneOldest g b o → x .log .append ≤ x .log .oldest + p → (m : ℕ) → Has g b m → ⊥
@@ -188,20 +144,9 @@ module _ {w : ℕ} {x : World} {b : Book} (bk : Books w (x .log .geometry) (x .l
       (record { power = true; log = reset w (x .log) .log; page = replicate p 0; hold = x .hold; volume = x .volume; operation = started (x .operation) answer.none word (g .first) })
       (withOpen b (emptyPage 0))
   reset-inv gone last free fits word =
-      let no-page : (m : ℕ) → Has g (withOpen b (emptyPage 0)) m → ⊥ = λ m h. none-left gone last m (has-back bk (emptyPage 0) m h) in
+      let no-page : (m : ℕ) → Has g (withOpen b (emptyPage 0)) m → ⊥ = λ m h. none-left gone last m (has-same refl h) in
       record {
-        books = record {
-          sizes = bk .sizes;
-          first = bk .first;
-          whole = bk .whole;
-          open-allowed = allowed-zero g c (bk .sizes);
-          open-fits = omega (arith, f);
-          open-good = tt;
-          slots = bk .slots;
-          near = λ m h. absurd (no-page m h);
-          gaps = λ m h j l u. absurd (no-page m h);
-          open-some = λ h. absurd (no-page 0 h);
-        };
+        books = books-none c (bk .sizes) (bk .first) (bk .whole) (bk .slots) (none-left gone last);
         powered = record {
           geometry = refl;
           mode = refl;
@@ -256,17 +201,17 @@ module _ {w : ℕ} {x : World} {b : Book} (bk : Books w (x .log .geometry) (x .l
         })
         (asked (wipedAll b (erasesNext (x .log) word .report)) (erasedSlot (g .first) (erasesNext (x .log) word .request)))
     next-inv ok fits = record {
-      books = books-noting bk _;
+      books = books-same _ refl refl bk;
       powered = turned-running r _ Erase (x .log .oldest + p) (x .log .read) _ fits (o + 1) next-is next-near next-live
           (asked-under b (g .first) _ (o + 1) (ap (slotOf n) next-of) (x .operation) free ok);
     }
     next-inv busy fits = record {
-      books = books-noting bk _;
+      books = books-same _ refl refl bk;
       powered = turned-running r _ Idle (x .log .oldest + p) (readAfterBusy (x .log .read) (x .log .oldest)) _ fits (o + 1) next-is next-near next-live
           (subst (Under w g c _ _ (o + 1) Idle) (sym free) idle);
     }
     next-inv fail fits = record {
-      books = books-noting bk _;
+      books = books-same _ refl refl bk;
       powered = turned-running r _ Erase (x .log .oldest + p) (x .log .read) _ fits (o + 1) next-is next-near next-live
           (asked-under b (g .first) _ (o + 1) (ap (slotOf n) next-of) (x .operation) free fail);
     }
@@ -298,7 +243,7 @@ module _ {w : ℕ} {x : World} {b : Book} (bk : Books w (x .log .geometry) (x .l
         → Kept (eraseCompletes w x good word .outcome) (eraseCompletes w x good word .page)
     completes-inv i good gone =
         let due : eraseChecks w (x .log) (length (x .volume)) (length (x .page)) (length (x .hold)) ≡ none =
-        ap (λ (a : Option ℕ). orElse a (unlessErasing (x .log .state))) gate-passes ∙ ap unlessErasing i in
+        ap (λ (a : Option ℕ). orElse a (unlessErasing (x .log .state))) (gate-passes bk r) ∙ ap unlessErasing i in
         subst (λ (a : Option ℕ). Kept (unless a (x .log) (eraseRuns w (x .log) good word)) (keep a (x .page) (eraseBuffer (x .log) good (x .page)))) (sym due) (runs-inv good gone)
 
   -- the invariant after a step of an erase's completion
@@ -309,17 +254,13 @@ module _ {w : ℕ} {x : World} {b : Book} (bk : Books w (x .log .geometry) (x .l
   pub stray-inv : (a : ℕ) → unlessErasing (x .log .state) ≡ some a → (good : Bool) (word : Word)
       → After (strayStep x (unlessErasing (x .log .state)) (delivered (g .first) x unended (eraseCompletes w x good word) word))
   stray-inv a e good word =
-      let check : eraseChecks w (x .log) (length (x .volume)) (length (x .page)) (length (x .hold)) ≡ some a =
-      ap (λ (a : Option ℕ). orElse a (unlessErasing (x .log .state))) gate-passes ∙ e in
-      subst (λ (q : Option ℕ). After (strayStep x q (delivered (g .first) x unended (eraseCompletes w x good word) word))) (sym e)
-      (subst
-      (λ (q : Option ℕ). After (delivered (g .first) x unended
-      (record { outcome = unless q (x .log) (eraseRuns w (x .log) good word); page = keep q (x .page) (eraseBuffer (x .log) good (x .page)); hold = x .hold }) word))
-      (sym check) (refused-inv a word))
+      strays bk r word (λ h. asked (wipedAll (leftIn n b (h .left)) (h .report)) (h .erases)) (λ s. refl) (gate w (x .log) (length (x .volume)) (length (x .page)) (length (x .hold))) (unlessErasing (x .log .state)) a e
+      (eraseRuns w (x .log) good word) (eraseBuffer (x .log) good (x .page))
 
-  -- the world in which the erase under way has left the old page: nothing is under way, in state Erase
-  ended-kept : x .log .state ≡ Erase → (s : ℕ) → Running w g c (afterEnd p x (erasing s) new kept) b
-  ended-kept i s = record {
+  -- the world in which the erase under way has ended, and the book with no page more: nothing is under way, in state Erase
+  ended-running : x .log .state ≡ Erase → (s : ℕ) (left : Erased) (slots : ℕ → Option Page) → ((m : ℕ) → Has g (withSlots slots) m → Has g b m)
+      → Running w g c (afterEnd p x (erasing s) new left) (withSlots slots)
+  ended-running i s left slots old = record {
     geometry = refl;
     mode = refl;
     page-length = r .page-length;
@@ -330,27 +271,15 @@ module _ {w : ℕ} {x : World} {b : Book} (bk : Books w (x .log .geometry) (x .l
     oldest-page = o;
     oldest = r .oldest;
     oldest-near = r .oldest-near;
-    live = r .live;
-    under = subst (λ (t : State). Under w g c (afterEnd p x (erasing s) new kept) b o t nothing) (sym i) stuck;
+    live = λ m h. r .live m (old m h);
+    under = subst (λ (t : State). Under w g c (afterEnd p x (erasing s) new left) (withSlots slots) o t nothing) (sym i) stuck;
   }
 
-  -- the world in which it has left all 0xFF
+  -- it has left all 0xFF
   ended-erased : x .log .state ≡ Erase → b .erasing ≡ slotOf n o → (s : ℕ) → Wiped w g c (afterEnd p x (erasing s) new erased) (withSlot b (b .erasing) none)
+  unfolding ended-running
   ended-erased i e s = record {
-    running = record {
-      geometry = refl;
-      mode = refl;
-      page-length = r .page-length;
-      hold-length = r .hold-length;
-      fits = r .fits;
-      appends = r .appends;
-      begins = r .begins;
-      oldest-page = o;
-      oldest = r .oldest;
-      oldest-near = r .oldest-near;
-      live = λ m h. r .live m (has-left g b (b .erasing) m h .0);
-      under = subst (λ (t : State). Under w g c (afterEnd p x (erasing s) new erased) (withSlot b (b .erasing) none) o t nothing) (sym i) stuck;
-    };
+    running = ended-running i s erased (withSlot b (b .erasing) none .slots) (λ m h. has-left g b (b .erasing) m h .0);
     gone = λ m h q. has-left g b (b .erasing) m h .1 (q ∙ sym e);
   }
 
@@ -369,7 +298,7 @@ module _ {w : ℕ} {x : World} {b : Book} (bk : Books w (x .log .geometry) (x .l
       let a = ended-erased bk r i e slot in
       completes-inv {x = wipedWorld erased} (books-wiped bk (r .oldest-page) e erased) (a .running) refl word i true (λ q. a .gone)
   due-inv i e false kept word =
-      completes-inv {x = wipedWorld kept} (books-wiped bk (r .oldest-page) e kept) (ended-kept bk r i slot) refl word i false (λ q. let z : _≡_ {A = ℕ} 0 1 = cc in absurd (omega arith))
+      completes-inv {x = wipedWorld kept} (books-wiped bk (r .oldest-page) e kept) (ended-running bk r i slot kept (b .slots) (λ m h. h)) refl word i false (λ q. let z : _≡_ {A = ℕ} 0 1 = cc in absurd (omega arith))
   due-inv i e false erased word =
       completes-inv {x = wipedWorld erased} (books-wiped bk (r .oldest-page) e erased) (ended-erased bk r i e slot .running) refl word i false
       (λ q. let z : _≡_ {A = ℕ} 0 1 = cc in absurd (omega arith))
@@ -401,12 +330,12 @@ erase-step {w} x b bk r word =
         → Inv w (x .log .geometry) (x .log .circular)
         (delivered (x .log .geometry .first) x unended (record { outcome = unless check (x .log) (eraseStarts (x .log) word); page = x .page; hold = x .hold }) word .world)
         (asked b (erasedSlot (x .log .geometry .first) (unless check (x .log) (eraseStarts (x .log) word) .request)))
-    go (some a) e fits = refused-inv bk r a word
+    go (some a) e fits = refused-inv bk r word a
     go none e fits =
         let i : x .log .state ≡ Idle =
         is-idle (x .log .state) (or-none (unlessIdle (x .log .state)) _ (or-none (gate w (x .log) (length (x .volume)) (length (x .page)) (length (x .hold))) (unlessFree (x .log)) e .1) .0) in
         record {
-          books = books-noting bk _;
+          books = books-same _ refl refl bk;
           powered = turned-running r _ Erase (x .log .oldest) (x .log .read) _ fits (r .oldest-page) (r .oldest) (r .oldest-near) (r .live)
               (asked-under b (x .log .geometry .first) _ (r .oldest-page) (ap (slotOf (x .log .geometry .n)) (oldest-of bk r)) (x .operation) (under-nothing (idle-rests i) (r .under)) word);
         }

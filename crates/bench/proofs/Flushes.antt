@@ -1,7 +1,7 @@
 -- A flush: where it leaves O, and what it keeps with the power on. The sizes and the mode are the log's own.
-use Prim.Native.Nat.{ℕ, _+_, _*_, _-_, _/_, _%_, _≤_, _<_}
+use Prim.Native.Nat.{ℕ, _+_, _*_, _-_, _/_, _≤_, _<_}
 use mathlib.Core.Path.{_≡_, refl, sym, ap, _∙_, subst}
-use mathlib.Core.Bool.{Bool, true, false}
+use mathlib.Core.Bool.{true}
 use mathlib.Core.List.{List, []}
 use mathlib.Core.Logic.{_⊎_, inl, inr}
 use mathlib.Core.Option.{Option}
@@ -9,26 +9,30 @@ use native.Mathlib.Omega.{arith}
 use native.Mathlib.Decide.{ℕ-discrete, decLt}
 use lib.ListN.{length, take}
 use borrow.Author.Tests.{eq-eqb, ne-eqb}
-use Rattle.page.specs.Pick.{pick}
-use Rattle.page.specs.Sizes.{Sizes, ceiling}
 use Rattle.page.specs.Id.{slotOf, firstId}
 use Rattle.page.specs.Flush.{overwritten}
 use Rattle.page.specs.Layout.{pageLength, encodePage, wholePage}
-use Rattle.page.proofs.Kit.{Facts, facts, page-of, overwritten-lap, overwritten-none}
+use Rattle.page.proofs.Kit.{Facts, facts, overwritten-lap, overwritten-none}
 use Rattle.page.proofs.Pages.{begins-whole, length-wholePage}
-use Rattle.log.specs.Answer.{write}
-use Rattle.log.specs.Log.{Geometry, State, Idle, Append, Sync, Log}
+use Rattle.log.specs.Log.{State, Idle}
 use Rattle.log.specs.Check.{stateFits}
 use Rattle.log.proofs.Checks.{state-fits}
-use Rattle.call.specs.Outcome.{Word, ok, busy, fail}
+use Rattle.call.specs.Outcome.{Word, ok, busy, fail, wordNumber}
 use Rattle.buffering.specs.Flush.{lastPage, flushedPage, lostPage, movedOldest, flush}
-use Rattle.bench.specs.Flash.{Operation, nothing, writing, started}
+use Rattle.bench.specs.Flash.{writing, started}
 use Rattle.bench.specs.World.{World}
 use Rattle.bench.specs.Book.{Page, Book}
-use Rattle.bench.proofs.Invariant.{Has, Books, Writes, Waits, Under, idle, sync, append, Running}
+use Rattle.bench.proofs.Invariant.{Books, Writes, Under, Running}
 use Rattle.bench.proofs.BookSteps.{allowed-first}
-use Rattle.bench.proofs.Appends.{last-open, flushed-whole}
-use Rattle.bench.proofs.Quiet.{Rests, under-nothing, idle-rests}
+use Rattle.bench.proofs.Appends.{oldest-of, last-open, flushed-whole}
+use Rattle.bench.proofs.Quiet.{under-nothing, under-rests, idle-rests}
+
+-- a driver that refuses doesn't accept
+pub busy-not : busy ≡ ok → ⊥
+busy-not e = let z : _≡_ {A = ℕ} 0 2 = ap wordNumber (sym e) in omega arith
+
+pub fail-not : fail ≡ ok → ⊥
+fail-not e = let z : _≡_ {A = ℕ} 0 1 = ap wordNumber (sym e) in omega arith
 
 -- where O lies after a flush of the page k: past the page that is overwritten
 pub record Left (w p n k oldest : ℕ) (id : ℕ) : Type 0 where
@@ -50,9 +54,6 @@ module _ {w : ℕ} {x : World} {b : Book} (bk : Books w (x .log .geometry) (x .l
 
   f : Facts w p n
   f = facts (bk .sizes)
-
-  oldest-of : x .log .oldest / p ≡ r .oldest-page
-  oldest-of = page-of (r .oldest-page) {r = w} (omega (arith, f .page-words, f .word)) (r .oldest)
 
   lost-is : lostPage w (x .log) ≡ overwritten w p (n * p) k
   unfolding lostPage
@@ -76,7 +77,7 @@ module _ {w : ℕ} {x : World} {b : Book} (bk : Books w (x .log .geometry) (x .l
       on-lap : n ≤ k → Dec (r .oldest-page + n ≡ k) → Left w p n k (r .oldest-page) (movedOldest p (lostPage w (x .log)) (x .log .oldest))
       on-lap h (yes e) =
           let lost : lostPage w (x .log) ≡ k - n = lost-is ∙ overwritten-lap (bk .sizes) k (allowed-first bk) h in
-          let here : x .log .oldest / p ≡ lostPage w (x .log) = oldest-of ∙ (let z : r .oldest-page ≡ k - n = omega arith in z) ∙ sym lost in
+          let here : x .log .oldest / p ≡ lostPage w (x .log) = oldest-of bk r ∙ (let z : r .oldest-page ≡ k - n = omega arith in z) ∙ sym lost in
           record {
             page = r .oldest-page + 1;
             is = moves here ∙ omega (arith, r .oldest);
@@ -86,7 +87,7 @@ module _ {w : ℕ} {x : World} {b : Book} (bk : Books w (x .log .geometry) (x .l
           }
       on-lap h (no d) =
           let lost : lostPage w (x .log) ≡ k - n = lost-is ∙ overwritten-lap (bk .sizes) k (allowed-first bk) h in
-          let other : x .log .oldest / p ≡ lostPage w (x .log) → ⊥ = λ (e : x .log .oldest / p ≡ lostPage w (x .log)). d (omega (arith, oldest-of, lost, e, h)) in
+          let other : x .log .oldest / p ≡ lostPage w (x .log) → ⊥ = λ (e : x .log .oldest / p ≡ lostPage w (x .log)). d (omega (arith, oldest-of bk r, lost, e, h)) in
           record { page = r .oldest-page; is = stays other ∙ r .oldest; moved = inl refl; room = omega (arith, near .1, d); most = near .0 }
 
       first-lap : Dec (k < n) → Left w p n k (r .oldest-page) (movedOldest p (lostPage w (x .log)) (x .log .oldest))
@@ -155,3 +156,13 @@ module _ {w : ℕ} {x : World} {b : Book} (bk : Books w (x .log .geometry) (x .l
     some-entry = subst (λ (q : Page). q .entries ≡ [] → ⊥) (sym eo) some-entry;
     bytes = flushed-whole bk r ∙ ap (λ (q : Page). wholePage w p (q .number) (q .entries)) (sym eo);
   }
+
+  -- a flush that the driver refuses
+  pub flush-refused : (s : State) (kept : ℕ) (word : Word) → (word ≡ ok → ⊥) → (hold : List ℕ) → x .log .state ≡ Idle → (b .open-page .entries ≡ [] → ⊥) → length hold ≡ p
+      → stateFits w (flush w (x .log) s kept word .log) ≡ true → Running w (x .log .geometry) (x .log .circular) (flushedWorld s kept word hold) b
+  unfolding flush
+  flush-refused s kept ok d hold i some-entry long fits = absurd (d refl)
+  flush-refused s kept busy d hold i some-entry long fits =
+      flushed-running s kept busy hold b refl refl some-entry long fits (under-rests (idle-rests refl) (under-nothing (idle-rests i) (r .under)))
+  flush-refused s kept fail d hold i some-entry long fits =
+      flushed-running s kept fail hold b refl refl some-entry long fits (under-rests (idle-rests refl) (under-nothing (idle-rests i) (r .under)))

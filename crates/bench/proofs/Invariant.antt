@@ -1,5 +1,5 @@
 -- What holds of the world and the book after every event. w is the width of a word, g the sizes, `circular` the mode.
-use Prim.Native.Nat.{ℕ, _+_, _*_, _%_, _≤_, _<_}
+use Prim.Native.Nat.{ℕ, _+_, _*_, _≤_, _<_}
 use mathlib.Core.Path.{_≡_}
 use mathlib.Core.Bool.{Bool, true, false}
 use mathlib.Core.List.{List, []}
@@ -11,7 +11,7 @@ use Rattle.page.specs.Id.{slotOf, firstId}
 use Rattle.page.specs.Slots.{slotBytes}
 use Rattle.page.specs.Header.{header}
 use Rattle.page.specs.Layout.{encodePage, wholePage, pageLength, AllGood}
-use Rattle.log.specs.Log.{Geometry, State, Idle, Read, Seek, Append, Sync, Erase, Log}
+use Rattle.log.specs.Log.{Geometry, State, Idle, Read, Seek, Append, Sync, Erase}
 use Rattle.log.specs.Check.{stateFits}
 use Rattle.bench.specs.Flash.{Operation, nothing, writing, erasing, blank}
 use Rattle.bench.specs.World.{World}

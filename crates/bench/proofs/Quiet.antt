@@ -1,8 +1,8 @@
 -- Calls that leave the volume, the buffers, the operation, O and A as they are: reads, seeks, deferred calls, and every refusal.
-use Prim.Native.Nat.{ℕ, _+_, _*_, _≤_, _<_}
+use Prim.Native.Nat.{ℕ}
 use mathlib.Core.Path.{_≡_, refl, sym, ap, _∙_, subst}
 use mathlib.Core.Bool.{Bool, true, false}
-use mathlib.Core.List.{List, []}
+use mathlib.Core.List.{List}
 use mathlib.Core.Option.{Option, none, some}
 use native.Mathlib.Omega.{arith}
 use lib.ListN.{length, take}
@@ -14,17 +14,17 @@ use Rattle.log.specs.Answer as answer
 use Rattle.log.specs.Answer.{Request, SIZE}
 use Rattle.log.specs.Log.{Geometry, State, Idle, Read, Seek, Append, Sync, Erase, Log}
 use Rattle.log.specs.Check.{stateFits}
-use Rattle.call.specs.Outcome.{Outcome, Word, ok, busy, fail, orElse, refusal, unless, inState}
+use Rattle.call.specs.Outcome.{Outcome, Word, ok, busy, fail, orElse, refusal, unless, keep}
 use Rattle.call.specs.Gate.{gate, unlessIdle, unlessDeferred, unlessSet}
 use Rattle.call.proofs.Checks.{or-none, is-idle}
 use Rattle.reading.specs.Read.{canceled, readEntry, readLength, readPlace, found, readRefusal, readRuns, readChecks}
 use Rattle.reading.specs.Seek.{sought, seekRefusal}
 use Rattle.reading.specs.Seek as seeking
 use Rattle.reading.specs.Deferred.{deferred}
-use Rattle.bench.specs.Flash.{Operation, nothing, writing, erasing, started}
-use Rattle.bench.specs.World.{World}
+use Rattle.bench.specs.Flash.{Operation, nothing, started}
+use Rattle.bench.specs.World.{World, unended, Heard, heard, delivered, strayStep}
 use Rattle.bench.specs.Book.{Book}
-use Rattle.bench.proofs.Invariant.{Writes, Waits, Under, idle, read, seek, stuck, erase, sync, append, Running}
+use Rattle.bench.proofs.Invariant.{Books, Under, idle, read, seek, stuck, erase, sync, append, Running, Inv}
 
 -- the world with another log
 abbrev pub withLog : World → Log → World
@@ -179,3 +179,30 @@ pub no-start : (op : Operation) (word : Word) (first : ℕ) → started op answe
 no-start op ok first = refl
 no-start op busy first = refl
 no-start op fail first = refl
+
+-- a world with the power on; the sizes and the mode are the log's own
+module _ {w : ℕ} {x : World} {b : Book} (bk : Books w (x .log .geometry) (x .log .circular) (x .volume) b) (r : Running w (x .log .geometry) (x .log .circular) x b) (word : Word) where
+  -- a quiet call keeps the invariant
+  pub quiet-inv : (o : Outcome) → Quiet (x .log) o → stateFits w (o .log) ≡ true
+      → Inv w (x .log .geometry) (x .log .circular) (delivered (x .log .geometry .first) x unended (record { outcome = o; page = x .page; hold = x .hold }) word .world) b
+  quiet-inv o q s =
+      let same : started (x .operation) (o .request) word (x .log .geometry .first) ≡ x .operation =
+      ap (λ (u : Request). started (x .operation) u word (x .log .geometry .first)) (q .request) ∙ no-start (x .operation) word (x .log .geometry .first) in
+      subst (λ (op : Operation). Inv w (x .log .geometry) (x .log .circular) (record { power = true; log = o .log; page = x .page; hold = x .hold; volume = x .volume; operation = op }) b)
+      (sym same)
+      (record { books = bk; powered = running-quiet r o q s })
+
+  -- a refused call leaves all as it was
+  pub refused-inv : (a : ℕ)
+      → Inv w (x .log .geometry) (x .log .circular) (delivered (x .log .geometry .first) x unended (record { outcome = refusal (x .log) a; page = x .page; hold = x .hold }) word .world) b
+  refused-inv a = quiet-inv (refusal (x .log) a) (quiet-refusal (x .log) a) (r .fits)
+
+  -- so does a completion that STRAY refuses, where the book doesn't change by hearing of a refusal
+  pub stray-inv : (hears : Heard → Book) → ((a : ℕ) → hears (heard (x .log .geometry .first) unended (refusal (x .log) a)) ≡ b) → (c u : Option ℕ) (a : ℕ) → u ≡ some a → (o : Outcome) (page : List ℕ)
+      → Inv w (x .log .geometry) (x .log .circular)
+      (strayStep x u (delivered (x .log .geometry .first) x unended (record { outcome = unless (orElse c u) (x .log) o; page = keep (orElse c u) (x .page) page; hold = x .hold }) word) .world)
+      (hears
+      (strayStep x u (delivered (x .log .geometry .first) x unended (record { outcome = unless (orElse c u) (x .log) o; page = keep (orElse c u) (x .page) page; hold = x .hold }) word) .told))
+  stray-inv hears still c none a e o page = let z : _≡_ {A = ℕ} 0 1 = cc in absurd (omega arith)
+  stray-inv hears still none (some s) a e o page = subst (Inv w (x .log .geometry) (x .log .circular) _) (sym (still s)) (refused-inv s)
+  stray-inv hears still (some t) (some s) a e o page = subst (Inv w (x .log .geometry) (x .log .circular) _) (sym (still t)) (refused-inv t)

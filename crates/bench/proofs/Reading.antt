@@ -34,7 +34,8 @@ use Rattle.bench.specs.Promise.{oldestFound, bookOldest, ofPage, andThen
 use Rattle.bench.proofs.Invariant.{Holds, Has, Books, Running}
 use Rattle.bench.proofs.BookPages.{Survey, empty, found, one-page, no-page, survey}
 use Rattle.bench.proofs.RestartKeeps.{has-slot, holds, has-none}
-use Rattle.bench.proofs.EntryReads.{fits-shape, logAt, Reader, reads-end, reads-broken}
+use Rattle.bench.proofs.Gates.{fits-shape}
+use Rattle.bench.proofs.EntryReads.{logAt, Reader, reads-end, reads-broken}
 use Rattle.bench.proofs.PageReads.{Shows, shows-buffer, shows-volume, shows-byte, shows-word, place-from, next-gives, next-ends, Paged, its-place, entries-read}
 
 -- the first byte of a page's tail

@@ -3,7 +3,7 @@ use Prim.Native.Nat.{ℕ, zero, suc, _+_, _*_, _/_, _%_, _≤_, _<_}
 use mathlib.Core.Path.{_≡_, refl, sym, ap, _∙_}
 use mathlib.Core.Bool.{Bool, true, false, not, _&&_, _||_}
 use mathlib.Core.List.{List, [], _∷_, append-nil}
-use mathlib.Core.Logic.{_⊎_, inl, inr}
+use mathlib.Core.Logic.{_⊎_, inl}
 use mathlib.Core.Option.{Option, none, some}
 use native.Mathlib.Omega.{arith}
 use native.Mathlib.Decide.{decLt}
@@ -36,6 +36,7 @@ use Rattle.bench.specs.Flash.{nothing, blank}
 use Rattle.bench.specs.Book.{Page, Book, emptyPage, withOpen, allowed, fills, pages, newest, least, reopened}
 use Rattle.bench.specs.Promise.{bookOldest, bookAppend}
 use Rattle.bench.proofs.Invariant.{Holds, SlotHolds, Has, Books, Running, idle}
+use Rattle.bench.proofs.BookSteps.{has-same, gap-same, books-none}
 use Rattle.bench.proofs.BookPages.{Top, Bottom, Survey, empty, found, one-page, no-page, survey}
 
 -- not (not x or y) is x and not y
@@ -76,17 +77,6 @@ allowed-below w g circular {j} {k} h e =
     go true q = refl
     go false q = let l = ltb-true k (g .n) q in lt-ltb j (g .n) (omega arith)
 
--- the page 0 is allowed
-pub allowed-zero : {w : ℕ} (g : Geometry) (circular : Bool) → Sizes w (g .p) (g .n) → allowed w g circular 0 ≡ true
-allowed-zero {w} g circular z =
-    let f = facts z in
-    let low : ltb (0 * g .p) (ceiling w) ≡ true = lt-ltb (0 * g .p) (ceiling w) (omega (arith, f)) in
-    rw (low, go circular (lt-ltb 0 (g .n) (f .count)))
-  where
-    go : (c : Bool) → ltb 0 (g .n) ≡ true → (c || ltb 0 (g .n)) ≡ true
-    go true q = refl
-    go false q = q
-
 -- the word 0 is bytes 0
 pub zero-word : (w : ℕ) → wordBytes w 0 ≡ replicate w 0
 zero-word zero = refl
@@ -113,14 +103,6 @@ module _ {w : ℕ} {g : Geometry} {circular : Bool} {volume : List ℕ} {b : Boo
   -- what the sizes tell
   f : Facts w (g .p) (g .n)
   f = facts (bk .sizes)
-
-  -- the open page is no matter to which pages the book has: without another,
-  has-back : {k : Page} {m : ℕ} → Has g (withOpen b k) m → Has g b m
-  has-back h = record { page = h .page; there = h .there; number = h .number }
-
-  -- and with it
-  has-on : {k : Page} {m : ℕ} → Has g b m → Has g (withOpen b k) m
-  has-on h = record { page = h .page; there = h .there; number = h .number }
 
   -- a page in a slot stands in the slot of its number
   slot-there : (s : ℕ) (k : Page) → s < g .n → b .slots s ≡ some k → b .slots (slotOf (g .n) (k .number)) ≡ some k
@@ -158,21 +140,10 @@ module _ {w : ℕ} {g : Geometry} {circular : Bool} {volume : List ℕ} {b : Boo
       → stateFits w (atRest g circular read-client append-client w w) ≡ true
       → Found w g circular volume hold b (atRest g circular read-client append-client w w) (replicate (g .p) 0) (emptyPage 0)
   found-empty read-client append-client hold lh e low fits =
-      let no-has : (m : ℕ) → Has g (withOpen b (emptyPage 0)) m → ⊥ = λ m h. has-none e m (has-back h) in
+      let no-has : (m : ℕ) → Has g (withOpen b (emptyPage 0)) m → ⊥ = λ m h. has-none e m (has-same refl h) in
       let at : w ≡ 0 * g .p + (w + 0) = omega arith in
       record {
-        books = record {
-          sizes = bk .sizes;
-          first = bk .first;
-          whole = bk .whole;
-          open-allowed = allowed-zero g circular (bk .sizes);
-          open-fits = omega (arith, f);
-          open-good = tt;
-          slots = bk .slots;
-          near = λ m h. absurd (no-has m h);
-          gaps = λ m h. absurd (no-has m h);
-          open-some = λ h. absurd (no-has 0 h);
-        };
+        books = books-none circular (bk .sizes) (bk .first) (bk .whole) (bk .slots) (has-none e);
         running = record {
           geometry = refl;
           mode = refl;
@@ -264,8 +235,8 @@ module _ {w : ℕ} {g : Geometry} {circular : Bool} {volume : List ℕ} {b : Boo
             open-fits = its .fits;
             open-good = its .good;
             slots = bk .slots;
-            near = λ m h. (has-top t m (has-back h), omega (arith, newest-old, bk .near m (has-back h) .1));
-            gaps = λ m h j l i. gap j (bk .gaps m (has-back h) j l (omega (arith, newest-old)));
+            near = λ m h. (has-top t m (has-same refl h), omega (arith, newest-old, bk .near m (has-same refl h) .1));
+            gaps = λ m h j l i. gap-same refl (bk .gaps m (has-same refl h) j l (omega (arith, newest-old)));
             open-some = λ h. its .some-entry;
           };
           running = record {
@@ -279,19 +250,14 @@ module _ {w : ℕ} {g : Geometry} {circular : Bool} {volume : List ℕ} {b : Boo
             oldest-page = a;
             oldest = eo;
             oldest-near = (has-top t a has-least, omega (arith, newest-old, bk .near a has-least .1));
-            live = λ m h. inl (has-bottom u m (has-back h));
+            live = λ m h. inl (has-bottom u m (has-same refl h));
             under = idle;
           };
           oldest = rw low eo;
           append = at;
           open-is = λ h. ap (λ (r : Page). r .entries) (one-page (h .there) (slot-there (t .slot) k (t .below) (t .is)));
-          open-none = λ h. absurd (h (has-on has-newest));
+          open-none = λ h. absurd (h (has-same refl has-newest));
         }
-      where
-        gap : (j : ℕ) → Has g b j ⊎ (slotBytes (g .p) (slotOf (g .n) j) volume ≡ blank (g .p))
-            → Has g (withOpen b k) j ⊎ (slotBytes (g .p) (slotOf (g .n) j) volume ≡ blank (g .p))
-        gap j (inl h) = inl (has-on h)
-        gap j (inr h) = inr h
 
     -- a restart that opens the page after the newest
     found-next : (read-client append-client : Bool) (page hold : List ℕ) → length page ≡ g .p → length hold ≡ g .p → least (pages (g .n) (b .slots)) ≡ some a
@@ -307,7 +273,7 @@ module _ {w : ℕ} {g : Geometry} {circular : Bool} {volume : List ℕ} {b : Boo
         ap (roundUp (g .p)) walk ∙ round-first ((k .number + 1) * g .p) (f .page) (mul-mod-left (k .number + 1) (g .p)) in
         let at : append ≡ (k .number + 1) * g .p + (w + 0) = ea ∙ omega (arith, up) in
         let bytes : page' ≡ overwrite page 0 (wordBytes w (firstId (g .p) (k .number + 1))) = ep ∙ ap (λ n. overwrite page 0 (wordBytes w n)) up in
-        let new : Has g (withOpen b (emptyPage (k .number + 1))) (k .number + 1) → ⊥ = λ h. omega (arith, has-top t (k .number + 1) (has-back h)) in
+        let new : Has g (withOpen b (emptyPage (k .number + 1))) (k .number + 1) → ⊥ = λ h. omega (arith, has-top t (k .number + 1) (has-same refl h)) in
         record {
           books = record {
             sizes = bk .sizes;
@@ -317,8 +283,8 @@ module _ {w : ℕ} {g : Geometry} {circular : Bool} {volume : List ℕ} {b : Boo
             open-fits = omega (arith, f);
             open-good = tt;
             slots = bk .slots;
-            near = λ m h. (omega (arith, has-top t m (has-back h)), near-next m (has-back h));
-            gaps = λ m h j l i. gap m (has-back h) j l i (decLt j (k .number));
+            near = λ m h. (omega (arith, has-top t m (has-same refl h)), near-next m (has-same refl h));
+            gaps = λ m h j l i. gap m (has-same refl h) j l i (decLt j (k .number));
             open-some = λ h. absurd (new h);
           };
           running = record {
@@ -332,7 +298,7 @@ module _ {w : ℕ} {g : Geometry} {circular : Bool} {volume : List ℕ} {b : Boo
             oldest-page = a;
             oldest = eo;
             oldest-near = (omega (arith, has-top t a has-least), near-next a has-least);
-            live = λ m h. inl (has-bottom u m (has-back h));
+            live = λ m h. inl (has-bottom u m (has-same refl h));
             under = idle;
           };
           oldest = rw low eo;
@@ -341,15 +307,10 @@ module _ {w : ℕ} {g : Geometry} {circular : Bool} {volume : List ℕ} {b : Boo
           open-none = λ h. refl;
         }
       where
-        on : (j : ℕ) → Has g b j ⊎ (slotBytes (g .p) (slotOf (g .n) j) volume ≡ blank (g .p))
-            → Has g (withOpen b (emptyPage (k .number + 1))) j ⊎ (slotBytes (g .p) (slotOf (g .n) j) volume ≡ blank (g .p))
-        on j (inl h) = inl (has-on h)
-        on j (inr h) = inr h
-
         gap : (m : ℕ) → Has g b m → (j : ℕ) → m ≤ j → j < k .number + 1 → Dec (j < k .number)
             → Has g (withOpen b (emptyPage (k .number + 1))) j ⊎ (slotBytes (g .p) (slotOf (g .n) j) volume ≡ blank (g .p))
-        gap m h j l i (yes d) = on j (bk .gaps m h j l (omega (arith, newest-old)))
-        gap m h j l i (no d) = let q : k .number ≡ j = omega arith in inl (has-on (rw q at has-newest))
+        gap m h j l i (yes d) = gap-same refl (bk .gaps m h j l (omega (arith, newest-old)))
+        gap m h j l i (no d) = let q : k .number ≡ j = omega arith in inl (has-same refl (rw q at has-newest))
 
     -- the ID that restart recovers, by what the book says
     recovered-id : recoveredId w g circular (k .number * g .p) volume

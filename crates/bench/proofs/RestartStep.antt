@@ -1,6 +1,6 @@
 -- A restart, in the middle of an operation or not: it keeps the invariant, and it finds what the book says where it isn't refused.
 use Prim.Native.Nat.{ℕ}
-use mathlib.Core.Path.{_≡_, refl, sym, ap, _∙_, subst}
+use mathlib.Core.Path.{_≡_, refl, ap}
 use mathlib.Core.Bool.{Bool, true, false}
 use mathlib.Core.List.{List, [], _∷_}
 use mathlib.Core.Option.{Option, none, some}
@@ -9,15 +9,14 @@ use lib.ListN.{length}
 use Rattle.page.specs.Pick.{pick}
 use Rattle.page.specs.Header.{Extent}
 use Rattle.log.specs.Answer.{OK, SHAPE}
-use Rattle.log.specs.Log.{Geometry, Idle, Log}
+use Rattle.log.specs.Log.{Geometry, Idle}
 use Rattle.log.specs.Check.{shapeFits}
 use Rattle.log.specs.Restart.{Restarted, started, refused, headers, logFrom, restoredLog, restoredPage, restart, restartPage}
 use Rattle.log.proofs.Checks.{shape-fits}
-use Rattle.bench.specs.Flash.{nothing}
 use Rattle.bench.specs.World.{World, Ended, restartStep, restartedWorld, restartNumber}
-use Rattle.bench.specs.Book.{Page, Book, withOpen, newest, least, pages, reopened, restarted}
+use Rattle.bench.specs.Book.{Page, Book, newest, least, pages, reopened, restarted}
 use Rattle.bench.specs.Promise.{Finds}
-use Rattle.bench.proofs.Invariant.{Books, Running, Inv}
+use Rattle.bench.proofs.Invariant.{Books, Inv}
 use Rattle.bench.proofs.RestartKeeps.{Restored, restored}
 use Rattle.bench.proofs.Reading.{reads-on}
 

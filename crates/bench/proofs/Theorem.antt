@@ -1,6 +1,6 @@
 -- Demand 3: one step keeps the invariant; the invariant gives the promise at a restart; so every list keeps the promise.
-use Prim.Native.Nat.{ℕ, _+_, _*_, _≤_, _<_}
-use mathlib.Core.Path.{_≡_, refl, sym, ap, _∙_, subst}
+use Prim.Native.Nat.{ℕ, _+_, _*_, _≤_}
+use mathlib.Core.Path.{_≡_, refl, sym, _∙_, subst}
 use mathlib.Core.Bool.{Bool, true, false, true≢false}
 use mathlib.Core.List.{List, [], _∷_, _++_}
 use mathlib.Core.Option.{Option, none, some, Option·some-injective}
@@ -8,40 +8,28 @@ use native.Mathlib.Omega.{arith}
 use native.Mathlib.Decide.{ℕ-discrete}
 use lib.ListN.{length}
 use Rattle.page.specs.Sizes.{Width, Sizes}
-use Rattle.page.proofs.Kit.{facts}
 use Rattle.log.specs.Answer.{OK, SHAPE}
 use Rattle.log.specs.Log.{Geometry, Log}
-use Rattle.log.specs.Check.{sizesFit, shapeFits, stateFits}
+use Rattle.log.specs.Check.{sizesFit, shapeFits}
 use Rattle.log.specs.Restart.{restart}
 use Rattle.log.proofs.Checks.{sizes-fit, shape-fits, sizes-of}
-use Rattle.call.specs.Outcome.{Outcome, Word, ok}
+use Rattle.call.specs.Outcome.{ok}
 use Rattle.engine.proofs.ReadsKeep.{read-keeps, seek-keeps, deferred-keeps}
-use Rattle.bench.specs.Flash.{Operation, nothing, Left, Erased, started}
+use Rattle.bench.specs.Flash.{Left, Erased}
 use Rattle.bench.specs.Event as event
 use Rattle.bench.specs.Event.{Event}
-use Rattle.bench.specs.World.{World, unended, Done, reads, seeks, defers, delivered, endedBy, afterEnd, restartNumber, stepOn, stepOff, stepBy, step, before}
-use Rattle.bench.specs.Book.{Page, Book, emptyBook, emptyPage, leftIn, restarted, note}
-use Rattle.bench.specs.Promise.{Bench, stepped, run, entryOf, Clear, AllClear, NoHeader, Finds, Promised, AllPromised, start}
-use Rattle.bench.proofs.Invariant.{Has, Books, Powered, Running, Inv}
-use Rattle.bench.proofs.Quiet.{Quiet, quiet-read, quiet-seek, quiet-deferred, withLog, running-quiet, no-start}
-use Rattle.bench.proofs.RestartKeeps.{allowed-zero}
+use Rattle.bench.specs.World.{World, unended, endedBy, afterEnd, stepOn, stepOff, stepBy, step}
+use Rattle.bench.specs.Book.{Book, emptyBook, leftIn, note}
+use Rattle.bench.specs.Promise.{Bench, stepped, run, entryOf, Clear, AllClear, NoHeader, Promised, AllPromised, start}
+use Rattle.bench.proofs.Invariant.{Has, Powered, Running, Inv}
+use Rattle.bench.proofs.Quiet.{quiet-read, quiet-seek, quiet-deferred, quiet-inv}
+use Rattle.bench.proofs.BookSteps.{books-none}
 use Rattle.bench.proofs.AppendStep.{append-step}
 use Rattle.bench.proofs.SyncStep.{sync-step}
 use Rattle.bench.proofs.WriteStep.{write-step}
 use Rattle.bench.proofs.EraseStep.{erase-step, erase-complete-step}
 use Rattle.bench.proofs.CutStep.{cut-books, cut-step}
 use Rattle.bench.proofs.RestartStep.{Restarts, restart-keeps}
-
--- a call that changes neither buffers nor volume and starts nothing
-quiet-step : {w : ℕ} (x : World) (b : Book) → Books w (x .log .geometry) (x .log .circular) (x .volume) b → Running w (x .log .geometry) (x .log .circular) x b
-    → (o : Outcome) → Quiet (x .log) o → stateFits w (o .log) ≡ true
-    → Inv w (x .log .geometry) (x .log .circular) (delivered (x .log .geometry .first) x unended (record { outcome = o; page = x .page; hold = x .hold }) ok .world) b
-quiet-step {w} x b bk r o q s =
-    let same : started (x .operation) (o .request) ok (x .log .geometry .first) ≡ x .operation =
-    ap (λ request. started (x .operation) request ok (x .log .geometry .first)) (q .request) ∙ no-start (x .operation) ok (x .log .geometry .first) in
-    subst (λ (op : Operation). Inv w (x .log .geometry) (x .log .circular) (record { power = true; log = o .log; page = x .page; hold = x .hold; volume = x .volume; operation = op }) b)
-    (sym same)
-    (record { books = bk; powered = running-quiet r o q s })
 
 -- what an event keeps and what is promised of it
 pub record Keeps (w : ℕ) (g : Geometry) (circular : Bool) (e : Event) (a : Option ℕ) (s : Bench) : Type 0 where
@@ -71,19 +59,19 @@ on-own : {w : ℕ} (x : World) (b : Book) → Inv w (x .log .geometry) (x .log .
 unfolding note
 on-own x b i r (event.append bytes n word) clear = record { keeps = append-step x b (i .books) r bytes n word clear; promised = tt }
 on-own {w} x b i r (event.read bytes n) clear = record {
-  keeps = quiet-step x b (i .books) r _ (quiet-read w (x .log) (x .volume) (x .page) (length (x .hold)) (length bytes) n)
+  keeps = quiet-inv (i .books) r ok _ (quiet-read w (x .log) (x .volume) (x .page) (length (x .hold)) (length bytes) n)
       (read-keeps (i .books .sizes .page .width) (x .log) (x .volume) (x .page) (length (x .hold)) (length bytes) n (r .fits));
   promised = tt;
 }
 on-own {w} x b i r (event.seek id) clear = record {
-  keeps = quiet-step x b (i .books) r _ (quiet-seek w (x .log) (length (x .volume)) (length (x .page)) (length (x .hold)) id)
+  keeps = quiet-inv (i .books) r ok _ (quiet-seek w (x .log) (length (x .volume)) (length (x .page)) (length (x .hold)) id)
       (seek-keeps w (x .log) (length (x .volume)) (length (x .page)) (length (x .hold)) id (r .fits));
   promised = tt;
 }
 on-own x b i r (event.sync word) clear = record { keeps = sync-step x b (i .books) r word; promised = tt }
 on-own x b i r (event.erase word) clear = record { keeps = erase-step x b (i .books) r word; promised = tt }
 on-own {w} x b i r event.deferred clear = record {
-  keeps = quiet-step x b (i .books) r _ (quiet-deferred w (x .log) (length (x .volume)) (length (x .page)) (length (x .hold)))
+  keeps = quiet-inv (i .books) r ok _ (quiet-deferred w (x .log) (length (x .volume)) (length (x .page)) (length (x .hold)))
       (deferred-keeps w (x .log) (length (x .volume)) (length (x .page)) (length (x .hold)) (r .fits));
   promised = tt;
 }
@@ -153,18 +141,7 @@ no-page g m h = let e : none ≡ some (h .page) = h .there in let z : _≡_ {A =
 pub start-inv : {w : ℕ} {g : Geometry} (circular : Bool) (l : Log) (volume page hold : List ℕ) → Sizes w (g .p) (g .n) → g .first ≤ 16_777_215 → length volume ≡ g .n * g .p → NoHeader w g volume
     → Inv w g circular (start l volume page hold .world) (start l volume page hold .book)
 start-inv {w} {g} circular l volume page hold z first whole none-valid = record {
-  books = record {
-    sizes = z;
-    first = first;
-    whole = whole;
-    open-allowed = allowed-zero g circular z;
-    open-fits = let f = facts z in omega arith;
-    open-good = tt;
-    slots = none-valid;
-    near = λ m h. absurd (no-page g m h);
-    gaps = λ m h j a c. absurd (no-page g m h);
-    open-some = λ h i. no-page g _ h;
-  };
+  books = books-none circular z first whole none-valid (no-page g);
   powered = refl;
 }
 

@@ -18,7 +18,7 @@ use Rattle.log.specs.Log.{State, Idle, Append, Sync}
 use Rattle.log.specs.Check.{stateFits}
 use Rattle.log.specs.Open.{openedPage}
 use Rattle.log.proofs.Checks.{state-fits, fits-state}
-use Rattle.call.specs.Outcome.{Outcome, ok, orElse, unless, keep, refusal, inState}
+use Rattle.call.specs.Outcome.{Outcome, ok, orElse, unless, keep, inState}
 use Rattle.call.specs.Gate.{gate, unlessWriting}
 use Rattle.buffering.specs.Store.{stored, storedPage}
 use Rattle.completing.specs.WriteComplete.{opensNext, opened, notStored, syncDone, appendWritten, appendWrittenPage, syncWritten, syncWrittenPage, writeRuns, writePage, writeChecks}
@@ -27,26 +27,15 @@ use Rattle.engine.proofs.WritesKeep.{opened-fits, write-fits}
 use Rattle.bench.specs.Flash.{Operation, nothing, started, Left, new, inSlot, afterWrite}
 use Rattle.bench.specs.Event as event
 use Rattle.bench.specs.Event.{writeLeaves}
-use Rattle.bench.specs.World.{World, unended, wrote, heard, delivered, strayStep, writeStep}
+use Rattle.bench.specs.World.{World, wrote, heard, writeStep}
 use Rattle.bench.specs.Book.{Book, allowed, fills, leftIn, withOpen, joined, emptyPage, note}
 use Rattle.bench.specs.Promise.{doneEntry, entryOf, Clear}
 use Rattle.bench.proofs.Invariant.{Books, Writes, Waits, Under, idle, read, seek, stuck, erase, sync, append, Running, Inv}
-use Rattle.bench.proofs.EntryReads.{fits-shape, passes}
-use Rattle.bench.proofs.Quiet.{quiet-refusal, running-quiet}
-use Rattle.bench.proofs.WrittenKeeps.{left-books, left-open, left-live, idle-running, next-may, writtenBook, opened-books, opened-running, stored-books, storedWorld, opened-stored}
-
--- a completion that STRAY refuses changes nothing
-stray-keeps : {w : ℕ} {x : World} {b : Book} → Books w (x .log .geometry) (x .log .circular) (x .volume) b → Running w (x .log .geometry) (x .log .circular) x b
-    → (good : Bool) (left : Left) (q u : Option ℕ) (o : Outcome) (page : List ℕ) → u ≡ some STRAY
-    → Inv w (x .log .geometry) (x .log .circular)
-    (strayStep x u (delivered (x .log .geometry .first) x unended (record { outcome = unless (orElse q u) (x .log) o; page = keep (orElse q u) (x .page) page; hold = x .hold }) ok) .world)
-    (note w (x .log .geometry) (x .log .circular) b (event.write-complete good left)
-    (strayStep x u (delivered (x .log .geometry .first) x unended (record { outcome = unless (orElse q u) (x .log) o; page = keep (orElse q u) (x .page) page; hold = x .hold }) ok) .told))
-unfolding note
-stray-keeps {x = x} bk r good left none none o page e = let z : _≡_ {A = ℕ} 0 1 = cc in absurd (omega arith)
-stray-keeps {x = x} bk r good left (some c) none o page e = let z : _≡_ {A = ℕ} 0 1 = cc in absurd (omega arith)
-stray-keeps {x = x} bk r good left none (some a) o page e = record { books = bk; powered = running-quiet r (refusal (x .log) a) (quiet-refusal (x .log) a) (r .fits) }
-stray-keeps {x = x} bk r good left (some c) (some a) o page e = record { books = bk; powered = running-quiet r (refusal (x .log) c) (quiet-refusal (x .log) c) (r .fits) }
+use Rattle.bench.proofs.BookSteps.{books-wrote}
+use Rattle.bench.proofs.Appends.{may-next}
+use Rattle.bench.proofs.Gates.{gate-passes}
+use Rattle.bench.proofs.Quiet.{stray-inv}
+use Rattle.bench.proofs.WrittenKeeps.{left-open, left-live, idle-running, writtenBook, opened-books, opened-running, stored-books, storedWorld, opened-stored}
 
 -- the world and the book after a write that left l and a call that gave o and left a page buffer
 abbrev Ends : (w : ℕ) (x : World) (b : Book) (good : Bool) (left l : Left) → Outcome → List ℕ → Type 0
@@ -88,9 +77,7 @@ module _ {w : ℕ} {x : World} {b : Book} (bk : Books w (x .log .geometry) (x .l
   checks-none : (l : Left) (s : State) → x .log .state ≡ s → unlessWriting s ≡ none
       → writeChecks w (x .log) (length (afterWrite p (slotOf n k) (x .page) l (x .volume))) (length (x .page)) (length (x .hold)) ≡ none
   checks-none l s e u =
-      let passed : gate w (x .log) (length (afterWrite p (slotOf n k) (x .page) l (x .volume))) (length (x .page)) (length (x .hold)) ≡ none =
-      passes w (x .log) _ _ _ (fits-shape (x .log .geometry) _ _ _ (bk .sizes) (bk .first) (left-books bk r wr l .whole) (r .page-length) (r .hold-length)) (r .fits) in
-      ap (λ (c : Option ℕ). orElse c (unlessWriting (x .log .state))) passed ∙ ap unlessWriting e ∙ u
+      ap (λ (c : Option ℕ). orElse c (unlessWriting (x .log .state))) (gate-passes (books-wrote bk wr l) r) ∙ ap unlessWriting e ∙ u
 
   -- the whole call, by its state
   ends-in : (l : Left) (s : State) → x .log .state ≡ s → unlessWriting s ≡ none
@@ -112,13 +99,13 @@ module _ {w : ℕ} {x : World} {b : Book} (bk : Books w (x .log .geometry) (x .l
   pub failed-append : (l : Left) → Ends w x b good left l (notStored (x .log) FAIL) (x .page)
   unfolding note
   failed-append l c =
-      record { books = left-books bk r wr l; powered = idle-running bk r wr (leftIn n b (wrote l)) (left-open bk r wr l) (left-live bk r wr l) _ 0 (fits-after false Append) }
+      record { books = books-wrote bk wr l; powered = idle-running bk r wr (leftIn n b (wrote l)) (left-open bk r wr l) (left-live bk r wr l) _ 0 (fits-after false Append) }
 
   -- a failed write of a sync
   pub failed-sync : (l : Left) → Ends w x b good left l (syncDone (x .log) FAIL) (x .page)
   unfolding note
   failed-sync l c =
-      record { books = left-books bk r wr l; powered = idle-running bk r wr (leftIn n b (wrote l)) (left-open bk r wr l) (left-live bk r wr l) _ (x .log .kept) (fits-after false Sync) }
+      record { books = books-wrote bk wr l; powered = idle-running bk r wr (leftIn n b (wrote l)) (left-open bk r wr l) (left-live bk r wr l) _ (x .log .kept) (fits-after false Sync) }
 
   -- the next page may be opened, and STATE holds in it
   fits-opened : opensNext w (x .log) ≡ true → stateFits w (inState (opened w (x .log)) Idle) ≡ true
@@ -142,7 +129,7 @@ module _ {w : ℕ} {x : World} {b : Book} (bk : Books w (x .log .geometry) (x .l
   done-append wa = go (opensNext w (x .log)) opens (fits-after true Append)
     where
       opens : opensNext w (x .log) ≡ true
-      opens = next-may bk r wr ∙ wa .next
+      opens = may-next bk r (wr .some-entry) ∙ wa .next
 
       go : (t : Bool) → t ≡ true → stateFits w (pick t (stored w (opened w (x .log)) (x .log .kept)) (notStored (x .log) CANCEL) .log) ≡ true
           → Ends w x b good left new (pick t (stored w (opened w (x .log)) (x .log .kept)) (notStored (x .log) CANCEL))
@@ -190,11 +177,11 @@ module _ {w : ℕ} {x : World} {b : Book} (bk : Books w (x .log .geometry) (x .l
   sync-rests : Inv w (x .log .geometry) (x .log .circular)
       (record { power = true; log = inState (x .log) Idle; page = x .page; hold = x .hold; volume = inSlot p (slotOf n k) (x .page) (x .volume); operation = nothing }) (writtenBook bk r wr)
   sync-rests =
-      record { books = left-books bk r wr new; powered = idle-running bk r wr (writtenBook bk r wr) refl (left-live bk r wr new) _ (x .log .kept) (fits-after false Sync) }
+      record { books = books-wrote bk wr new; powered = idle-running bk r wr (writtenBook bk r wr) refl (left-live bk r wr new) _ (x .log .kept) (fits-after false Sync) }
 
   -- the book opens the next page where the log does
   synced : (c d : Bool) → allowed w (x .log .geometry) (x .log .circular) (k + 1) ≡ d → Synced c d c d
-  synced true true e = record { books = opened-books bk r wr e; powered = opened-running bk r wr (fits-opened (next-may bk r wr ∙ e)) }
+  synced true true e = record { books = opened-books bk r wr e; powered = opened-running bk r wr (fits-opened (may-next bk r (wr .some-entry) ∙ e)) }
   synced true false e = sync-rests
   synced false d e = sync-rests
 
@@ -203,7 +190,7 @@ module _ {w : ℕ} {x : World} {b : Book} (bk : Books w (x .log .geometry) (x .l
   unfolding syncWritten syncWrittenPage note
   done-sync c =
       subst (λ (t : Bool). Synced t (opensNext w (x .log)) (fills w p (b .open-page)) (allowed w (x .log .geometry) (x .log .circular) (k + 1))) (sym full-offset)
-      (subst (λ (t : Bool). Synced (fills w p (b .open-page)) t (fills w p (b .open-page)) (allowed w (x .log .geometry) (x .log .circular) (k + 1))) (sym (next-may bk r wr))
+      (subst (λ (t : Bool). Synced (fills w p (b .open-page)) t (fills w p (b .open-page)) (allowed w (x .log .geometry) (x .log .circular) (k + 1))) (sym (may-next bk r (wr .some-entry)))
       (synced (fills w p (b .open-page)) (allowed w (x .log .geometry) (x .log .circular) (k + 1)) refl))
 
 -- an append's write that ends
@@ -227,6 +214,7 @@ pub write-step : {w : ℕ} (x : World) (b : Book) → Inv w (x .log .geometry) (
     → Clear (entryOf b (event.write-complete good left) (writeStep w (x .log .geometry .p) (x .log .geometry .first) x (x .operation) good left .told))
     → Inv w (x .log .geometry) (x .log .circular) (writeStep w (x .log .geometry .p) (x .log .geometry .first) x (x .operation) good left .world)
     (note w (x .log .geometry) (x .log .circular) b (event.write-complete good left) (writeStep w (x .log .geometry .p) (x .log .geometry .first) x (x .operation) good left .told))
+unfolding note
 write-step {w} x b inv r good left clear = go (x .log .state) (x .operation) refl (r .under) clear
   where
     bk : Books w (x .log .geometry) (x .log .circular) (x .volume) b
@@ -237,8 +225,8 @@ write-step {w} x b inv r good left clear = go (x .log .state) (x .operation) ref
         → Inv w (x .log .geometry) (x .log .circular) (writeStep w (x .log .geometry .p) (x .log .geometry .first) x nothing good left .world)
         (note w (x .log .geometry) (x .log .circular) b (event.write-complete good left) (writeStep w (x .log .geometry .p) (x .log .geometry .first) x nothing good left .told))
     stray e =
-        stray-keeps bk r good left (gate w (x .log) (length (x .volume)) (length (x .page)) (length (x .hold))) (unlessWriting (x .log .state)) (writeRuns w (x .log) good (x .log .state))
-        (writePage w (x .log) good (x .log .state) (x .page) (x .hold)) e
+        stray-inv bk r ok (note w (x .log .geometry) (x .log .circular) b (event.write-complete good left)) (λ a. refl) (gate w (x .log) (length (x .volume)) (length (x .page)) (length (x .hold)))
+        (unlessWriting (x .log .state)) STRAY e (writeRuns w (x .log) good (x .log .state)) (writePage w (x .log) good (x .log .state) (x .page) (x .hold))
 
     go : (s : State) (op : Operation) → x .log .state ≡ s → Under w (x .log .geometry) (x .log .circular) x b (r .oldest-page) s op
         → Clear (entryOf b (event.write-complete good left) (writeStep w (x .log .geometry .p) (x .log .geometry .first) x op good left .told))

@@ -1,59 +1,36 @@
 -- A write that ends: what it leaves, and what holds with the next page opened or not. The sizes and the mode are the log's own.
-use Prim.Native.Nat.{ℕ, _+_, _*_, _-_, _/_, _%_, _≤_, _<_}
+use Prim.Native.Nat.{ℕ, _+_, _*_, _-_, _%_, _≤_}
 use mathlib.Core.Path.{_≡_, refl, sym, ap, _∙_, subst}
-use mathlib.Core.Bool.{Bool, true, false, not, _&&_, _||_}
+use mathlib.Core.Bool.{true, false}
 use mathlib.Core.List.{List, []}
 use mathlib.Core.Logic.{_⊎_, inl, inr}
 use mathlib.Core.Option.{some}
 use native.Mathlib.Omega.{arith}
-use native.Mathlib.Nat.{mod-lt, add-mod-right, mul-mod-left}
-use native.Mathlib.Decide.{decLt}
+use native.Mathlib.Nat.{add-mod-right}
 use lib.ListN.{length, take}
-use lib.Dec.{eqb, ltb, leb}
-use borrow.Author.Tests.{lt-ltb, le-ltb, le-leb, ne-eqb}
-use Rattle.page.specs.Sizes.{ceiling}
+use lib.Dec.{eqb}
+use borrow.Author.Tests.{le-leb, ne-eqb}
 use Rattle.page.specs.Id.{slotOf, firstId, roundUp}
 use Rattle.page.specs.Word.{wordBytes}
 use Rattle.page.specs.Bytes.{overwrite}
 use Rattle.page.specs.Layout.{pageLength, encodePage, Good}
-use Rattle.page.proofs.Kit.{Facts, facts, rest-of, page-of, round-first, round-next, full, full-back}
+use Rattle.page.proofs.Kit.{Facts, facts, rest-of}
 use Rattle.page.proofs.Words.{length-wordBytes}
 use Rattle.page.proofs.Overwrites.{length-overwrite}
 use Rattle.page.proofs.Pages.{begins-header}
 use Rattle.log.specs.Log.{Geometry, Idle}
 use Rattle.log.specs.Check.{stateFits}
-use Rattle.log.specs.Open.{mayOpen, openedPage}
+use Rattle.log.specs.Open.{openedPage}
 use Rattle.call.specs.Outcome.{moved, inState}
 use Rattle.buffering.specs.Store.{stored, storedPage}
 use Rattle.completing.specs.WriteComplete.{opened}
 use Rattle.writing.specs.Append.{fitsPage}
-use Rattle.bench.specs.Flash.{nothing, inSlot, Left, old, blanked, new, afterWrite}
+use Rattle.bench.specs.Flash.{nothing, inSlot, Left, old, blanked, new}
 use Rattle.bench.specs.World.{World, wrote}
 use Rattle.bench.specs.Book.{Page, Book, leftIn, withSlot, withOpen, emptyPage, joined, allowed}
 use Rattle.bench.proofs.Invariant.{Has, Books, Writes, idle, Running}
-use Rattle.bench.proofs.BookSteps.{slot-same, has-left, has-put, books-blank, books-new, books-next, books-join, has-back}
-use Rattle.bench.proofs.RestartKeeps.{may-allowed}
-use Rattle.bench.proofs.Appends.{longer, stored-running}
-
--- two IDs that round up to one page both lie, with a page, in the volume or neither does
-past-same : (n a c : ℕ) {p : ℕ} → 0 < p → roundUp p a ≡ roundUp p c → ltb (n * p) (a + p) ≡ ltb (n * p) (c + p)
-past-same n a c {p} h e = go (decLt (n * p) (a + p)) (decLt (n * p) (c + p))
-  where
-    go : Dec (n * p < a + p) → Dec (n * p < c + p) → ltb (n * p) (a + p) ≡ ltb (n * p) (c + p)
-    go (yes i) (yes j) = lt-ltb _ _ i ∙ sym (lt-ltb _ _ j)
-    go (yes i) (no j) = absurd (j (full-back n c h (subst (λ (r : ℕ). n * p ≤ r) e (full n a h i))))
-    go (no i) (yes j) = absurd (i (full-back n a h (subst (λ (r : ℕ). n * p ≤ r) (sym e) (full n c h j))))
-    go (no i) (no j) =
-        let u : a + p ≤ n * p = omega (arith, i) in
-        let v : c + p ≤ n * p = omega (arith, j) in
-        le-ltb _ _ u ∙ sym (le-ltb _ _ v)
-
--- two IDs that round up to one page may both be opened or neither
-pub may-same : (w : ℕ) (g : Geometry) (circular : Bool) (a c : ℕ) → 0 < g .p → roundUp (g .p) a ≡ roundUp (g .p) c → mayOpen w g circular a ≡ mayOpen w g circular c
-unfolding mayOpen
-may-same w g circular a c h e =
-    ap (λ (t : Bool). not ((not circular && t) || leb (ceiling w) (roundUp (g .p) a))) (past-same (g .n) a c h e)
-    ∙ ap (λ (r : ℕ). not ((not circular && ltb (g .n * g .p) (c + g .p)) || leb (ceiling w) r)) e
+use Rattle.bench.proofs.BookSteps.{has-same, slot-same, has-left, has-put, books-next, books-join, books-wrote}
+use Rattle.bench.proofs.Appends.{longer, append-round, stored-running}
 
 -- a write is under way
 module _ {w : ℕ} {x : World} {b : Book} (bk : Books w (x .log .geometry) (x .log .circular) (x .volume) b) (r : Running w (x .log .geometry) (x .log .circular) x b)
@@ -75,12 +52,6 @@ module _ {w : ℕ} {x : World} {b : Book} (bk : Books w (x .log .geometry) (x .l
 
   f : Facts w p n
   f = facts (bk .sizes)
-
-  -- the book and the volume after what it left
-  pub left-books : (l : Left) → Books w (x .log .geometry) (x .log .circular) (afterWrite p (slotOf n k) (x .page) l (x .volume)) (leftIn n b (wrote l))
-  left-books old = bk
-  left-books blanked = books-blank bk (slotOf n k) (mod-lt k (f .count))
-  left-books new = books-new bk (wr .some-entry) (x .page) (wr .bytes)
 
   -- the open page stays
   pub left-open : (l : Left) → leftIn n b (wrote l) .open-page ≡ b .open-page
@@ -118,26 +89,6 @@ module _ {w : ℕ} {x : World} {b : Book} (bk : Books w (x .log .geometry) (x .l
     under = idle;
   }
 
-  -- A rounds up to the next page's first ID
-  pub next-up : roundUp p (x .log .append) ≡ firstId p (k + 1)
-  next-up = go (decLt (pageLength w es) p)
-    where
-      go : Dec (pageLength w es < p) → roundUp p (x .log .append) ≡ firstId p (k + 1)
-      go (yes h) =
-          let rest : x .log .append % p ≡ pageLength w es = rest-of k h (r .appends) in
-          let page : x .log .append / p ≡ k = page-of k h (r .appends) in
-          round-next (x .log .append) (f .page) (omega (arith, rest, f .word)) ∙ ap (λ (j : ℕ). (j + 1) * p) page
-      go (no h) =
-          let at : x .log .append ≡ (k + 1) * p + 0 = omega (arith, r .appends, bk .open-fits, h) in
-          round-first (x .log .append) (f .page) (rest-of (k + 1) (f .page) at) ∙ omega (arith, at)
-
-  -- the log may open the next page exactly where the book allows it
-  pub next-may : mayOpen w (x .log .geometry) (x .log .circular) (x .log .append) ≡ allowed w (x .log .geometry) (x .log .circular) (k + 1)
-  next-may =
-      may-same w (x .log .geometry) (x .log .circular) (x .log .append) (firstId p (k + 1)) (f .page)
-      (next-up ∙ sym (round-first (firstId p (k + 1)) (f .page) (mul-mod-left (k + 1) p)))
-      ∙ may-allowed (x .log .geometry) (x .log .circular) (bk .sizes) (k + 1)
-
   -- the book with the page written
   abbrev pub writtenBook : Book
   writtenBook = withSlot b (slotOf n k) (some (b .open-page))
@@ -158,7 +109,7 @@ module _ {w : ℕ} {x : World} {b : Book} (bk : Books w (x .log .geometry) (x .l
   pub opened-books : allowed w (x .log .geometry) (x .log .circular) (k + 1) ≡ true
       → Books w (x .log .geometry) (x .log .circular) (inSlot p (slotOf n k) (x .page) (x .volume)) (withOpen writtenBook (emptyPage (k + 1)))
   opened-books may =
-      books-next (left-books new) may (record { page = b .open-page; there = slot-same b (slotOf n k) (some (b .open-page)); number = refl }) (λ m h. written-near m h .1)
+      books-next (books-wrote bk wr new) may (record { page = b .open-page; there = slot-same b (slotOf n k) (some (b .open-page)); number = refl }) (λ m h. written-near m h .1)
 
   -- the world with the next page opened
   abbrev pub openedWorld : World
@@ -176,19 +127,19 @@ module _ {w : ℕ} {x : World} {b : Book} (bk : Books w (x .log .geometry) (x .l
       → Running w (x .log .geometry) (x .log .circular) openedWorld (withOpen writtenBook (emptyPage (k + 1)))
   opened-running fits =
       let bytes : openedPage w (x .log .geometry) (x .log .append) (x .page) ≡ overwrite (x .page) 0 (wordBytes w (firstId p (k + 1))) =
-      ap (λ (i : ℕ). overwrite (x .page) 0 (wordBytes w i)) next-up in
+      ap (λ (i : ℕ). overwrite (x .page) 0 (wordBytes w i)) (append-round bk r (wr .some-entry)) in
       record {
         geometry = refl;
         mode = refl;
         page-length = ap length bytes ∙ length-overwrite (x .page) 0 (wordBytes w (firstId p (k + 1))) (omega (arith, f, r .page-length, length-wordBytes w (firstId p (k + 1)))) ∙ r .page-length;
         hold-length = r .hold-length;
         fits = fits;
-        appends = omega (arith, next-up);
+        appends = omega (arith, append-round bk r (wr .some-entry));
         begins = ap (take (pageLength w [])) bytes ∙ begins-header w p (k + 1) (x .page);
         oldest-page = r .oldest-page;
         oldest = r .oldest;
         oldest-near = (omega (arith, r .oldest-near .0), omega (arith, wr .room));
-        live = λ m h. inl (written-near m (has-back (left-books new) (emptyPage (k + 1)) m h) .0);
+        live = λ m h. inl (written-near m (has-same refl h) .0);
         under = idle;
       }
 
@@ -198,7 +149,7 @@ module _ {w : ℕ} {x : World} {b : Book} (bk : Books w (x .log .geometry) (x .l
     opened-room : fitsPage w (inState (opened w (x .log)) Idle) (length e) ≡ true
     unfolding fitsPage
     opened-room =
-        let rest : (roundUp p (x .log .append) + w) % p ≡ w = rest-of (k + 1) {r = w} (omega (arith, f)) (omega (arith, next-up)) in
+        let rest : (roundUp p (x .log .append) + w) % p ≡ w = rest-of (k + 1) {r = w} (omega (arith, f)) (omega (arith, append-round bk r (wr .some-entry))) in
         let some-word : eqb w 0 ≡ false = ne-eqb w 0 (λ (z : w ≡ 0). omega (arith, f .word)) in
         rw (rest, some-word) (le-leb (length e + w) (p - w) (omega arith))
 
