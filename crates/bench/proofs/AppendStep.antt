@@ -29,7 +29,7 @@ use Rattle.writing.specs.Append.{fitsPage, unlessLength, unlessSize, unlessRoom
 use Rattle.writing.proofs.AppendLaws.{Accepted, accepted}
 use Rattle.engine.proofs.WritesKeep.{append-keeps}
 use Rattle.engine.proofs.Openable.{append-may, unfit-page}
-use Rattle.bench.specs.Flash.{Operation, nothing}
+use Rattle.flash.specs.Flash.{Operation, nothing}
 use Rattle.bench.specs.World.{World, unended, Done, appends, delivered}
 use Rattle.bench.specs.Book.{Book, appended, withOpen, joined, note}
 use Rattle.bench.specs.Event as event

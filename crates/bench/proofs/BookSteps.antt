@@ -20,10 +20,10 @@ use Rattle.page.proofs.Headers as headers
 use Rattle.page.proofs.Slots.{length-put, put-same, put-other, header-slots}
 use Rattle.page.proofs.Pages.{length-wholePage}
 use Rattle.log.specs.Log.{Geometry, State}
-use Rattle.bench.specs.Flash.{Operation, Left, old, blanked, new, Erased, kept, erased, slotFits, inSlot, blank, blankSlot, afterWrite, afterErase}
+use Rattle.flash.specs.Flash.{Operation, Left, old, blanked, new, Erased, kept, erased, slotFits, inSlot, blank, blankSlot, afterWrite, afterErase}
 use Rattle.bench.specs.World.{World, wrote, wiped, afterEnd, endedBy}
 use Rattle.bench.specs.Book.{Page, Book, allowed, withSlot, withOpen, emptyPage, joined, leftIn}
-use Rattle.bench.proofs.Slots.{in-slot, length-blank}
+use Rattle.flash.proofs.Slots.{in-slot, length-blank}
 use Rattle.bench.proofs.Invariant.{SlotHolds, Has, Books, Writes, Under, idle, read, seek, stuck, erase, sync, append}
 
 -- what the book says of a slot after one slot changed

@@ -20,7 +20,7 @@ use Rattle.buffering.specs.Store.{stored, storedPage}
 use Rattle.writing.specs.Append.{fitsPage, appendRefusal, appendRuns, appendPage, appendHold}
 use Rattle.writing.specs.Sync.{syncRuns, syncPage}
 use Rattle.engine.proofs.Cases as engine
-use Rattle.bench.specs.Flash.{Left, blanked, new, erased, blank, inSlot}
+use Rattle.flash.specs.Flash.{Left, blanked, new, erased, blank, inSlot}
 use Rattle.bench.specs.Event as event
 use Rattle.bench.specs.Event.{Event}
 use Rattle.bench.specs.World.{step}

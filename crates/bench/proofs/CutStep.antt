@@ -1,7 +1,7 @@
 -- What a cut leaves: the book and the volume stay as one. The sizes and the mode are the log's own.
 use Prim.Native.Nat.{ℕ}
 use mathlib.Core.Path.{refl}
-use Rattle.bench.specs.Flash.{Left, Erased}
+use Rattle.flash.specs.Flash.{Left, Erased}
 use Rattle.bench.specs.Event as event
 use Rattle.bench.specs.World.{World, afterEnd, endedBy, cutStep}
 use Rattle.bench.specs.Book.{Book, leftIn, note}

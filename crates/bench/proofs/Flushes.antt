@@ -19,7 +19,7 @@ use Rattle.log.specs.Check.{stateFits}
 use Rattle.log.proofs.Checks.{state-fits}
 use Rattle.call.specs.Outcome.{Word, ok, busy, fail, wordNumber}
 use Rattle.buffering.specs.Flush.{lastPage, flushedPage, lostPage, movedOldest, flush}
-use Rattle.bench.specs.Flash.{writing, started}
+use Rattle.flash.specs.Flash.{writing, started}
 use Rattle.bench.specs.World.{World}
 use Rattle.bench.specs.Book.{Page, Book}
 use Rattle.bench.proofs.Invariant.{Books, Writes, Under, Running}

@@ -13,7 +13,7 @@ use Rattle.page.specs.Header.{header}
 use Rattle.page.specs.Layout.{encodePage, wholePage, pageLength, AllGood}
 use Rattle.log.specs.Log.{Geometry, State, Idle, Read, Seek, Append, Sync, Erase}
 use Rattle.log.specs.Check.{stateFits}
-use Rattle.bench.specs.Flash.{Operation, nothing, writing, erasing, blank}
+use Rattle.flash.specs.Flash.{Operation, nothing, writing, erasing, blank}
 use Rattle.bench.specs.World.{World}
 use Rattle.bench.specs.Book.{Page, Book, allowed}
 

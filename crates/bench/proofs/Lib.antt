@@ -1,5 +1,4 @@
--- The laws of the flash, the book and the world.
-pub mod Slots
+-- The laws of the book and the world.
 pub mod Invariant
 pub mod BookPages
 pub mod BookSteps

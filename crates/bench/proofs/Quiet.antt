@@ -21,7 +21,7 @@ use Rattle.reading.specs.Read.{canceled, readEntry, readLength, readPlace, foun
 use Rattle.reading.specs.Seek.{sought, seekRefusal}
 use Rattle.reading.specs.Seek as seeking
 use Rattle.reading.specs.Deferred.{deferred}
-use Rattle.bench.specs.Flash.{Operation, nothing, started}
+use Rattle.flash.specs.Flash.{Operation, nothing, started}
 use Rattle.bench.specs.World.{World, unended, Heard, heard, delivered, strayStep}
 use Rattle.bench.specs.Book.{Book}
 use Rattle.bench.proofs.Invariant.{Books, Under, idle, read, seek, stuck, erase, sync, append, Running, Inv}

@@ -27,7 +27,7 @@ use Rattle.page.proofs.Pages.{length-encodePage, begins-whole}
 use Rattle.log.specs.Answer.{FAIL}
 use Rattle.log.specs.Log.{Geometry, Idle, Log}
 use Rattle.log.proofs.Checks.{state-fits}
-use Rattle.bench.specs.Flash.{blank}
+use Rattle.flash.specs.Flash.{blank}
 use Rattle.bench.specs.World.{World}
 use Rattle.bench.specs.Book.{Page, Book, pages, least}
 use Rattle.bench.specs.Promise.{oldestFound, bookOldest, ofPage, andThen, entriesFrom, entriesAt, bookEntries, ReadsOn}

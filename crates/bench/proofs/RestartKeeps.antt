@@ -32,7 +32,7 @@ use Rattle.log.specs.Restart.{atRest, newestPage, walkedId, opens, recoveredId,
 use Rattle.log.proofs.Checks.{fits-state}
 use Rattle.log.proofs.Opens.{ltb-leb}
 use Rattle.log.proofs.RestartState.{restored-fits}
-use Rattle.bench.specs.Flash.{nothing, blank}
+use Rattle.flash.specs.Flash.{nothing, blank}
 use Rattle.bench.specs.Book.{Page, Book, emptyPage, withOpen, allowed, fills, pages, newest, least, reopened}
 use Rattle.bench.specs.Promise.{bookOldest, bookAppend}
 use Rattle.bench.proofs.Invariant.{Holds, SlotHolds, Has, Books, Running, idle}

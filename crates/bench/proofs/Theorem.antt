@@ -15,7 +15,7 @@ use Rattle.log.specs.Restart.{restart}
 use Rattle.log.proofs.Checks.{sizes-fit, shape-fits, sizes-of}
 use Rattle.call.specs.Outcome.{ok}
 use Rattle.engine.proofs.ReadsKeep.{read-keeps, seek-keeps, deferred-keeps}
-use Rattle.bench.specs.Flash.{Left, Erased}
+use Rattle.flash.specs.Flash.{Left, Erased}
 use Rattle.bench.specs.Event as event
 use Rattle.bench.specs.Event.{Event}
 use Rattle.bench.specs.World.{World, unended, endedBy, afterEnd, stepOn, stepOff, stepBy, step}

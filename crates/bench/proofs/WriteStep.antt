@@ -24,7 +24,7 @@ use Rattle.buffering.specs.Store.{stored, storedPage}
 use Rattle.completing.specs.WriteComplete.{opensNext, opened, notStored, syncDone, appendWritten, appendWrittenPage, syncWritten, syncWrittenPage, writeRuns, writePage, writeChecks}
 use Rattle.engine.proofs.StateKit.{state-set}
 use Rattle.engine.proofs.WritesKeep.{opened-fits, write-fits}
-use Rattle.bench.specs.Flash.{Operation, nothing, started, Left, new, inSlot, afterWrite}
+use Rattle.flash.specs.Flash.{Operation, nothing, started, Left, new, inSlot, afterWrite}
 use Rattle.bench.specs.Event as event
 use Rattle.bench.specs.Event.{writeLeaves}
 use Rattle.bench.specs.World.{World, wrote, heard, writeStep}

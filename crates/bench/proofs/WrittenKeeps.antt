@@ -25,7 +25,7 @@ use Rattle.call.specs.Outcome.{moved, inState}
 use Rattle.buffering.specs.Store.{stored, storedPage}
 use Rattle.completing.specs.WriteComplete.{opened}
 use Rattle.writing.specs.Append.{fitsPage}
-use Rattle.bench.specs.Flash.{nothing, inSlot, Left, old, blanked, new}
+use Rattle.flash.specs.Flash.{nothing, inSlot, Left, old, blanked, new}
 use Rattle.bench.specs.World.{World, wrote}
 use Rattle.bench.specs.Book.{Page, Book, leftIn, withSlot, withOpen, emptyPage, joined, allowed}
 use Rattle.bench.proofs.Invariant.{Has, Books, Writes, idle, Running}

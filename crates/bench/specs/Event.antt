@@ -3,7 +3,7 @@ use Prim.Native.Nat.{ℕ}
 use mathlib.Core.Bool.{Bool, true, false}
 use mathlib.Core.List.{List}
 use Rattle.call.specs.Outcome.{Word}
-use Rattle.bench.specs.Flash.{Left, new, Erased, erased}
+use Rattle.flash.specs.Flash.{Left, new, Erased, erased}
 
 -- A call has its arguments. A completion is good or not; what a failed or cut operation left is said for a write and for an erase, and looked at where one is under way.
 -- A restart brings its client flags and its page and hold buffers.

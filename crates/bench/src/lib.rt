@@ -1,2 +1,1 @@
-// The bench: a flash whose operations start, complete and leave what document 01 allows.
-pub mod flash;
+// The bench over the log and the flash: definitions and theorems about lists of events. A function that runs a list is to come.

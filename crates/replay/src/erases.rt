@@ -2,11 +2,11 @@
 use crate::run;
 use crate::run::Due;
 use crate::world::World;
-use bench::flash;
-use bench::flash::Erasure;
-use bench::flash::Operation;
 use call::gate;
 use call::outcome::Driver;
+use flash::operation;
+use flash::operation::Erasure;
+use flash::operation::Operation;
 use script::parse::EraseCall;
 
 fn erase(
@@ -64,7 +64,7 @@ fn erase_complete(
         Due::Never => run::not_delivered(name, world, out),
         Due::Stray => erased(name, world, good, word, volume, page, hold, out),
         Due::Ends(slot) => {
-            flash::end_erase(volume, world.log.geometry.page_size, slot, left);
+            operation::end_erase(volume, world.log.geometry.page_size, slot, left);
             erased(name, run::ended(world), good, word, volume, page, hold, out)
         }
     }

@@ -1,7 +1,7 @@
 // The lines that are no call of the engine: the getters, a survey, the volume's bytes and another state.
 use crate::world;
 use crate::world::World;
-use bench::flash::Operation;
+use flash::operation::Operation;
 use log::get;
 use log::get::Capacity;
 use log::state::Log;

@@ -1,11 +1,11 @@
 // What every call of a script has: its trace, the world after it, and whether it is delivered.
 use crate::world;
 use crate::world::World;
-use bench::flash;
-use bench::flash::Operation;
 use call::outcome::Check;
 use call::outcome::Driver;
 use call::outcome::Outcome;
+use flash::operation;
+use flash::operation::Operation;
 use script::trace;
 
 // The outcome, with the buffers as they are after the call.
@@ -21,7 +21,7 @@ pub(crate) fn turn(world: World, given: Outcome, word: Driver) -> World {
     let log = given.log;
     let request = given.request;
     let operation = world.operation;
-    let next = flash::start(operation, request, word, log.geometry.first_page);
+    let next = operation::start(operation, request, word, log.geometry.first_page);
     world::after(world, log, next, world.hostile)
 }
 

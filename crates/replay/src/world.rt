@@ -1,5 +1,5 @@
 // What a replay holds between two lines: the log, the flash's operation, the power, and how many bytes of each buffer are in use.
-use bench::flash::Operation;
+use flash::operation::Operation;
 use log::state::Geometry;
 use log::state::Log;
 use log::state::State;

@@ -2,11 +2,11 @@
 use crate::run;
 use crate::run::Due;
 use crate::world::World;
-use bench::flash;
-use bench::flash::Operation;
-use bench::flash::Written;
 use call::gate;
 use call::outcome::Driver;
+use flash::operation;
+use flash::operation::Operation;
+use flash::operation::Written;
 use script::parse::WriteCall;
 use script::text;
 
@@ -79,7 +79,7 @@ fn write_complete(
         Due::Never => run::not_delivered(name, world, out),
         Due::Stray => written(name, world, good, volume, page, hold, out),
         Due::Ends(slot) => {
-            flash::end_write(volume, world.log.geometry.page_size, slot, page, left);
+            operation::end_write(volume, world.log.geometry.page_size, slot, page, left);
             written(name, run::ended(world), good, volume, page, hold, out)
         }
     }

@@ -1,9 +1,9 @@
 // A line of the script, read as a call.
 use crate::text;
 use crate::text::Number;
-use bench::flash::Erasure;
-use bench::flash::Written;
 use call::outcome::Driver;
+use flash::operation::Erasure;
+use flash::operation::Written;
 use log::state::State;
 
 // What is wrong with a line.

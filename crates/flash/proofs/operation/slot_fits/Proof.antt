@@ -1,4 +1,4 @@
--- `bench::flash::slot_fits` meets its contract.
+-- `flash::operation::slot_fits` meets its contract.
 use Prim.Native.Nat.{ℕ, _+_, _*_, _/_, _≤_, _<_}
 use mathlib.Core.Path.{_≡_, refl, sym, ap, _∙_}
 use mathlib.Core.Bool.{true, false}
@@ -7,13 +7,13 @@ use borrow.Author.Tests.{le-leb, lt-ltb, le-ltb}
 use native.Mathlib.Nat.{pos-of-ne-zero}
 use native.Mathlib.Decide.{decLt}
 use lib.Dec.{ltb}
-use Rattle.bench.specs.Flash.{slotFits}
-use Rattle.bench.proofs.Slots.{has-slot, no-slot}
+use Rattle.flash.specs.Flash.{slotFits}
+use Rattle.flash.proofs.Slots.{has-slot, no-slot}
 use borrow.Author.Needs.{needs}
-use Rattle.bench.proofs.flash.slot_fits.Statement.{statement}
-use Rattle.bench.proofs.flash.slot_fits.Tie as tie
-use Rattle.bench.proofs.flash.slot_fits.Reads as reads
-use Rattle.bench.proofs.flash.slot_fits.Lts as lts
+use Rattle.flash.proofs.operation.slot_fits.Statement.{statement}
+use Rattle.flash.proofs.operation.slot_fits.Tie as tie
+use Rattle.flash.proofs.operation.slot_fits.Reads as reads
+use Rattle.flash.proofs.operation.slot_fits.Lts as lts
 
 -- the test is the one of the definition
 by-test : (p s v : ℕ) → 0 < p → ltb s (v / p) ≡ slotFits p s v

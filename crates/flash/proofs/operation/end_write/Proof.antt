@@ -1,12 +1,12 @@
--- `bench::flash::end_write` meets its contract.
+-- `flash::operation::end_write` meets its contract.
 use mathlib.Core.Path.{_≡_, refl, sym, ap, _∙_}
 use borrow.Author.Needs.{needs}
-use Rattle.bench.proofs.flash.end_write.Statement.{statement}
-use Rattle.bench.proofs.flash.end_write.Tie as tie
-use Rattle.bench.proofs.flash.end_write.Reads as reads
-use Rattle.bench.proofs.flash.end_write.Lts as lts
-use Rattle.bench.proofs.flash.blank_slot.Reads as blank-slot-reads
-use Rattle.bench.proofs.flash.put_slot.Reads as put-slot-reads
+use Rattle.flash.proofs.operation.end_write.Statement.{statement}
+use Rattle.flash.proofs.operation.end_write.Tie as tie
+use Rattle.flash.proofs.operation.end_write.Reads as reads
+use Rattle.flash.proofs.operation.end_write.Lts as lts
+use Rattle.flash.proofs.operation.blank_slot.Reads as blank-slot-reads
+use Rattle.flash.proofs.operation.put_slot.Reads as put-slot-reads
 
 enum-told : tie.Need-enum-told
 enum-told c = search needs

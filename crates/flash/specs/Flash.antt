@@ -10,12 +10,12 @@ use Rattle.page.specs.Slots.{putSlot}
 use Rattle.log.specs.Answer.{Request, write, erase}
 use Rattle.log.specs.Answer as answer
 use Rattle.call.specs.Outcome.{Word, ok, busy, fail}
-use Rattle.bench.specs.declared.flash.Operation as operation
-use Rattle.bench.specs.declared.flash.Operation.the-variants as op
-use Rattle.bench.specs.declared.flash.Written as written
-use Rattle.bench.specs.declared.flash.Written.the-variants as wrote
-use Rattle.bench.specs.declared.flash.Erasure as erasure
-use Rattle.bench.specs.declared.flash.Erasure.the-variants as erases
+use Rattle.flash.specs.declared.operation.Operation as operation
+use Rattle.flash.specs.declared.operation.Operation.the-variants as op
+use Rattle.flash.specs.declared.operation.Written as written
+use Rattle.flash.specs.declared.operation.Written.the-variants as wrote
+use Rattle.flash.specs.declared.operation.Erasure as erasure
+use Rattle.flash.specs.declared.operation.Erasure.the-variants as erases
 
 -- the operation under way, and its slot
 pub data Operation : Type 0 where

@@ -1,11 +1,11 @@
--- `bench::flash::start` meets its contract.
+-- `flash::operation::start` meets its contract.
 use mathlib.Core.Path.{_≡_, refl, sym, ap, _∙_}
 use borrow.Author.Needs.{needs}
-use Rattle.bench.proofs.flash.start.Statement.{statement}
-use Rattle.bench.proofs.flash.start.Tie as tie
-use Rattle.bench.proofs.flash.start.Reads as reads
-use Rattle.bench.proofs.flash.start.Lts as lts
-use Rattle.bench.proofs.flash.slot.Reads as slot-reads
+use Rattle.flash.proofs.operation.start.Statement.{statement}
+use Rattle.flash.proofs.operation.start.Tie as tie
+use Rattle.flash.proofs.operation.start.Reads as reads
+use Rattle.flash.proofs.operation.start.Lts as lts
+use Rattle.flash.proofs.operation.slot.Reads as slot-reads
 
 enum-told : tie.Need-enum-told
 enum-told c = search needs

@@ -3,7 +3,7 @@ ghost use Prim.Native.Nat.{_-_};
 ghost use mathlib.Core.Path.{_≡_};
 ghost use Rattle.log.specs.Answer.{requestOf};
 ghost use Rattle.call.specs.Outcome.{wordOf};
-ghost use Rattle.bench.specs.Flash.{operationOf, leftOf, erasedOf, started, slotFits, inSlot, blankSlot, afterWrite, afterErase};
+ghost use Rattle.flash.specs.Flash.{operationOf, leftOf, erasedOf, started, slotFits, inSlot, blankSlot, afterWrite, afterErase};
 use call::outcome::Driver;
 use log::answer::Request;
 use page::PAD_BYTE;

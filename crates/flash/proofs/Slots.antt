@@ -12,7 +12,7 @@ use Rattle.page.specs.Bytes.{padByte, overwrite, filled}
 use Rattle.page.specs.Slots.{putSlot}
 use Rattle.page.proofs.Overwrites.{filled-whole}
 use Rattle.page.proofs.Kit.{parts, pages-le}
-use Rattle.bench.specs.Flash.{slotFits, inSlot, blank, blankSlot}
+use Rattle.flash.specs.Flash.{slotFits, inSlot, blank, blankSlot}
 
 -- a volume has the slots below its length / P
 pub has-slot : (p s v : ℕ) → 0 < p → s < v / p → slotFits p s v ≡ true

@@ -1,11 +1,11 @@
--- `bench::flash::end_erase` meets its contract.
+-- `flash::operation::end_erase` meets its contract.
 use mathlib.Core.Path.{_≡_, refl, sym, ap, _∙_}
 use borrow.Author.Needs.{needs}
-use Rattle.bench.proofs.flash.end_erase.Statement.{statement}
-use Rattle.bench.proofs.flash.end_erase.Tie as tie
-use Rattle.bench.proofs.flash.end_erase.Reads as reads
-use Rattle.bench.proofs.flash.end_erase.Lts as lts
-use Rattle.bench.proofs.flash.blank_slot.Reads as blank-slot-reads
+use Rattle.flash.proofs.operation.end_erase.Statement.{statement}
+use Rattle.flash.proofs.operation.end_erase.Tie as tie
+use Rattle.flash.proofs.operation.end_erase.Reads as reads
+use Rattle.flash.proofs.operation.end_erase.Lts as lts
+use Rattle.flash.proofs.operation.blank_slot.Reads as blank-slot-reads
 
 enum-told : tie.Need-enum-told
 enum-told c = search needs

@@ -1,4 +1,4 @@
--- `bench::flash::blank_slot` meets its contract.
+-- `flash::operation::blank_slot` meets its contract.
 use Prim.Native.Nat.{ℕ, _+_, _*_, _-_, _/_, _≤_, _<_}
 use mathlib.Core.Path.{_≡_, refl, sym, ap, _∙_}
 use mathlib.Core.Bool.{Bool, true, false}
@@ -6,14 +6,14 @@ use native.Mathlib.Omega.{arith}
 use lib.ListN.{length}
 use lib.Dec.{ltb, leb}
 use borrow.Author.Tests.{not-true, not-false, leb-true}
-use Rattle.bench.specs.Flash.{slotFits}
-use Rattle.bench.proofs.Slots.{out-of-slot, blanks}
+use Rattle.flash.specs.Flash.{slotFits}
+use Rattle.flash.proofs.Slots.{out-of-slot, blanks}
 use borrow.Author.Needs.{needs}
-use Rattle.bench.proofs.flash.blank_slot.Statement.{statement}
-use Rattle.bench.proofs.flash.blank_slot.Tie as tie
-use Rattle.bench.proofs.flash.blank_slot.Reads as reads
-use Rattle.bench.proofs.flash.blank_slot.Lts as lts
-use Rattle.bench.proofs.flash.slot_fits.Reads as slot-fits-reads
+use Rattle.flash.proofs.operation.blank_slot.Statement.{statement}
+use Rattle.flash.proofs.operation.blank_slot.Tie as tie
+use Rattle.flash.proofs.operation.blank_slot.Reads as reads
+use Rattle.flash.proofs.operation.blank_slot.Lts as lts
+use Rattle.flash.proofs.operation.slot_fits.Reads as slot-fits-reads
 use Rattle.page.proofs.bytes.fill.Reads as fill-reads
 
 slot-fits-requires : tie.Need-slot-fits-requires

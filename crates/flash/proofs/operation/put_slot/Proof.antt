@@ -1,4 +1,4 @@
--- `bench::flash::put_slot` meets its contract.
+-- `flash::operation::put_slot` meets its contract.
 use Prim.Native.Nat.{ℕ, _+_, _*_, _-_, _/_, _≤_, _<_}
 use mathlib.Core.Path.{_≡_, refl, sym, ap, _∙_}
 use mathlib.Core.Bool.{Bool, true, false}
@@ -7,13 +7,13 @@ use lib.ListN.{length}
 use lib.Dec.{ltb, leb}
 use borrow.Author.Tests.{not-true, not-false, leb-true}
 use Rattle.page.specs.Slots.{putSlot}
-use Rattle.bench.proofs.Slots.{in-slot, out-of-slot, no-page}
+use Rattle.flash.proofs.Slots.{in-slot, out-of-slot, no-page}
 use borrow.Author.Needs.{needs}
-use Rattle.bench.proofs.flash.put_slot.Statement.{statement}
-use Rattle.bench.proofs.flash.put_slot.Tie as tie
-use Rattle.bench.proofs.flash.put_slot.Reads as reads
-use Rattle.bench.proofs.flash.put_slot.Lts as lts
-use Rattle.bench.proofs.flash.slot_fits.Reads as slot-fits-reads
+use Rattle.flash.proofs.operation.put_slot.Statement.{statement}
+use Rattle.flash.proofs.operation.put_slot.Tie as tie
+use Rattle.flash.proofs.operation.put_slot.Reads as reads
+use Rattle.flash.proofs.operation.put_slot.Lts as lts
+use Rattle.flash.proofs.operation.slot_fits.Reads as slot-fits-reads
 use Rattle.page.proofs.bytes.copy_in.Reads as copy-in-reads
 
 slot-fits-requires : tie.Need-slot-fits-requires

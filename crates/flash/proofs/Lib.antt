@@ -1,0 +1,2 @@
+-- The laws of the flash.
+pub mod Slots

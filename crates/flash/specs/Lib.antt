@@ -1,0 +1,2 @@
+-- "Bench flash".
+pub mod Flash
