@@ -45,19 +45,23 @@ abbrev pub NotOK : Option ℕ → Type 0
 NotOK none = Unit {0}
 NotOK (some a) = a ≡ OK → ⊥
 
+-- nor is one of two checks
 pub not-ok-else : (a c : Option ℕ) → NotOK a → NotOK c → NotOK (orElse a c)
 not-ok-else none c h i = i
 not-ok-else (some a) c h i = h
 
+-- nor a check by a test
 pub not-ok-pick : (t : Bool) (a c : Option ℕ) → NotOK a → NotOK c → NotOK (pick t a c)
 not-ok-pick true a c h i = h
 not-ok-pick false a c h i = i
 
+-- the gate never answers OK
 pub not-ok-gate : (w : ℕ) (l : Log) (volume page hold : ℕ) → NotOK (gate w l volume page hold)
 unfolding gate
 not-ok-gate w l volume page hold =
     not-ok-pick (shapeFits w (l .geometry) volume page hold) _ _ (not-ok-pick (stateFits w l) _ _ tt (λ e. omega arith)) (λ e. omega arith)
 
+-- nor does BUSY
 pub not-ok-idle : (s : State) → NotOK (unlessIdle s)
 not-ok-idle Idle = tt
 not-ok-idle Read = λ e. omega arith
@@ -66,10 +70,12 @@ not-ok-idle Append = λ e. omega arith
 not-ok-idle Sync = λ e. omega arith
 not-ok-idle Erase = λ e. omega arith
 
+-- nor RESERVE
 pub not-ok-set : (t : Bool) → NotOK (unlessSet t)
 not-ok-set true = tt
 not-ok-set false = λ e. omega arith
 
+-- nor any check of an append
 pub not-ok-append : (w : ℕ) (l : Log) (volume page hold room n : ℕ) → NotOK (appendChecks w l volume page hold room n)
 unfolding appendRefusal
 not-ok-append w l volume page hold room n =
@@ -120,12 +126,15 @@ module _ {w : ℕ} (x : World) (b : Book) (bk : Books w (x .log .geometry) (x .l
     refusals : appendRefusal w (x .log) (length bytes) n ≡ none
     refusals = or-none (gate w (x .log) (length (x .volume)) (length (x .page)) (length (x .hold))) _ pass .1
 
+    -- what its checks have told
     ac : Accepted w (x .log) (length bytes) n
     ac = accepted w (x .log) (length bytes) n refusals
 
+    -- the data is as long as said
     long : length e ≡ n
     long = length-take-le n bytes (ac .inside)
 
+    -- STATE holds after it
     fits : stateFits w (appendRuns w (x .log) n word .log) ≡ true
     fits = subst (λ (c : Option ℕ). stateFits w (unless c (x .log) (appendRuns w (x .log) n word) .log) ≡ true) pass
         (append-keeps (bk .sizes .page .width) (x .log) (length (x .volume)) (length (x .page)) (length (x .hold)) (length bytes) n word (r .fits))
@@ -160,6 +169,7 @@ module _ {w : ℕ} (x : World) (b : Book) (bk : Books w (x .log .geometry) (x .l
     abbrev waitingBook : Book
     waitingBook = record { slots = b .slots; open-page = b .open-page; waiting = e; erasing = b .erasing }
 
+    -- an append that waits
     waits : fitsPage w (x .log) n ≡ false → Waits w g (x .log .circular) (flushedWorld bk r Append n ok (heldEntry (x .hold) e)) waitingBook
     unfolding flush
     waits u = record {
@@ -170,6 +180,7 @@ module _ {w : ℕ} (x : World) (b : Book) (bk : Books w (x .log .geometry) (x .l
       next = sym (may-next bk r (full-some u)) ∙ append-may (x .log) (length bytes) n (bk .sizes) refusals u;
     }
 
+    -- the book and the volume are as before
     books-waiting : Books w g (x .log .circular) (x .volume) waitingBook
     books-waiting = books-same waitingBook refl refl bk
 
@@ -193,6 +204,7 @@ module _ {w : ℕ} (x : World) (b : Book) (bk : Books w (x .log .geometry) (x .l
       hold = pick u (x .hold) (heldEntry (x .hold) e);
     }
 
+    -- a call that passed keeps the invariant, by whether the entry fits
     passed-keeps : (t : Bool) → fitsPage w (x .log) n ≡ t → Clear (doneEntry (doneAs t t .outcome .report) e) → stateFits w (doneAs t t .outcome .log) ≡ true
         → Inv w g (x .log .circular) (worldBy (doneAs t t)) (bookBy (doneAs t t))
     unfolding stored flush
@@ -211,12 +223,14 @@ module _ {w : ℕ} (x : World) (b : Book) (bk : Books w (x .log .geometry) (x .l
         by-word fail i s' = subst (λ (v : Word). stateFits w (flush w (x .log) Append n v .log) ≡ true
             → Inv w g (x .log .circular) (flushedWorld bk r Append n v (heldEntry (x .hold) e)) (appended b e (some (flush w (x .log) Append n v .answer)) answer.nothing)) i (λ a. record { books = bk; powered = flush-refused bk r Append n fail fail-not (heldEntry (x .hold) e) (ac .idle) (full-some h) held-length a }) s'
 
+    -- and so by the tests of the call
     pub accepted-append : Clear (doneEntry (doneBy none .outcome .report) e) → Inv w g (x .log .circular) (worldBy (doneBy none)) (bookBy (doneBy none))
     unfolding appendRuns appendPage appendHold
     accepted-append clear =
         subst (λ (u : Bool). Inv w g (x .log .circular) (worldBy (doneAs (fitsPage w (x .log) n) u)) (bookBy (doneAs (fitsPage w (x .log) n) u))) (ap (fitsPage w (x .log)) (sym long))
         (passed-keeps (fitsPage w (x .log) n) refl clear fits)
 
+  -- by the checks
   by-checks : (c : Option ℕ) → checks ≡ c → Clear (doneEntry (doneBy c .outcome .report) e) → Inv w g (x .log .circular) (worldBy (doneBy c)) (bookBy (doneBy c))
   by-checks none h clear = accepted-append h clear
   by-checks (some a) h clear =

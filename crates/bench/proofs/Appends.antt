@@ -84,12 +84,15 @@ module _ {w : ℕ} {x : World} {b : Book} (bk : Books w (x .log .geometry) (x .l
   last-byte : x .log .append - 1 ≡ b .open-page .number * p + (pageLength w es - 1)
   last-byte = omega (arith, r .appends, f .word)
 
+  -- the last byte lies in the page
   last-below : pageLength w es - 1 < p
   last-below = omega (arith, bk .open-fits, f .word)
 
+  -- so its page is the open page
   pub last-open : lastPage (x .log) ≡ b .open-page .number
   last-open = page-of (b .open-page .number) last-below last-byte
 
+  -- and its offset is the last of the page
   last-offset : offsetOf p (x .log .append - 1) + 1 ≡ pageLength w es
   last-offset = omega (arith, rest-of (b .open-page .number) last-below last-byte, f .word)
 
@@ -122,6 +125,7 @@ module _ {w : ℕ} {x : World} {b : Book} (bk : Books w (x .log .geometry) (x .l
     room : (0 < x .log .append % p) × (length e + w ≤ p - x .log .append % p)
     room = fits-page w (x .log) (length e) fits
 
+    -- the open page is not full
     partly : pageLength w es < p
     partly = go (decLt (pageLength w es) p)
       where
@@ -136,10 +140,12 @@ module _ {w : ℕ} {x : World} {b : Book} (bk : Books w (x .log .geometry) (x .l
     pub stored-room : pageLength w (es ++ (e ∷ [])) ≤ p
     stored-room = omega (arith, longer w es e, room .1, offset-open partly, partly)
 
+    -- where it is stored
     stored-at : storedPage w (x .log) (x .page) e ≡ overwrite (x .page) (pageLength w es) (encode w e)
     unfolding storedPage
     stored-at = ap (λ (at : ℕ). overwrite (x .page) at (encode w e)) (offset-open partly)
 
+    -- the page buffer keeps its length
     pub stored-length : length (storedPage w (x .log) (x .page) e) ≡ p
     stored-length =
         ap (λ (l : List ℕ). length l) stored-at

@@ -31,6 +31,7 @@ module _ (b : Book) (s : ℕ) (x : Option Page) where
   pub slot-same : withSlot b s x .slots s ≡ x
   slot-same = rw (eq-eqb s s refl)
 
+  -- no other slot changes
   pub slot-other : (t : ℕ) → (t ≡ s → ⊥) → withSlot b s x .slots t ≡ b .slots t
   slot-other t d = rw (ne-eqb t s d)
 

@@ -52,6 +52,7 @@ pub record Starred : Type 0 where
   -- "new: A = 28"
   cut-new : logAfter (events new) ≡ atRest geometry true true true 4 28
 
+-- all of them, by computation
 pub starred : Starred
 unfolding step restart restartPage restoredLog restoredPage recoveredId opens validIds header wordAt slotBytes walkFrom hop stops mayOpen shapeFits sizesFit stateFits gate unlessFree appendRefusal fitsPage appendRuns appendPage appendHold stored storedPage overwrite filled syncRuns syncPage flush flushedPage lostPage overwritten movedOldest movedRead inSlot putSlot
 starred = record { engine = engine.cases; before = refl; cut-blank = refl; cut-new = refl }

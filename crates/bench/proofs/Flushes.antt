@@ -31,6 +31,7 @@ use Rattle.bench.proofs.Quiet.{under-nothing, under-rests, idle-rests}
 pub busy-not : busy ≡ ok → ⊥
 busy-not e = let z : _≡_ {A = ℕ} 0 2 = ap wordNumber (sym e) in omega arith
 
+-- nor does one that fails
 pub fail-not : fail ≡ ok → ⊥
 fail-not e = let z : _≡_ {A = ℕ} 0 1 = ap wordNumber (sym e) in omega arith
 
@@ -55,14 +56,17 @@ module _ {w : ℕ} {x : World} {b : Book} (bk : Books w (x .log .geometry) (x .l
   f : Facts w p n
   f = facts (bk .sizes)
 
+  -- the page that is lost is the one that the open page overwrites
   lost-is : lostPage w (x .log) ≡ overwritten w p (n * p) k
   unfolding lostPage
   lost-is = ap (overwritten w p (n * p)) (last-open bk r)
 
+  -- O stays where its page is another
   stays : (x .log .oldest / p ≡ lostPage w (x .log) → ⊥) → movedOldest p (lostPage w (x .log)) (x .log .oldest) ≡ x .log .oldest
   unfolding movedOldest
   stays d = rw (ne-eqb (x .log .oldest / p) (lostPage w (x .log)) d)
 
+  -- O moves by a page where its page is lost
   moves : x .log .oldest / p ≡ lostPage w (x .log) → movedOldest p (lostPage w (x .log)) (x .log .oldest) ≡ x .log .oldest + p
   unfolding movedOldest
   moves e = rw (eq-eqb (x .log .oldest / p) (lostPage w (x .log)) e)

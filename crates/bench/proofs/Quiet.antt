@@ -53,10 +53,12 @@ pub record Quiet (l : Log) (o : Outcome) : Type 0 where
 pub quiet-refusal : (l : Log) (a : ℕ) → Quiet l (refusal l a)
 quiet-refusal l a = record { geometry = refl; mode = refl; oldest = refl; append = refl; request = refl; turn = same refl refl }
 
+-- a call or its refusal
 pub quiet-unless : (c : Option ℕ) (l : Log) (o : Outcome) → (c ≡ none → Quiet l o) → Quiet l (unless c l o)
 quiet-unless none l o h = h refl
 quiet-unless (some a) l o h = quiet-refusal l a
 
+-- one of two calls
 pub quiet-pick : (t : Bool) (l : Log) (o o' : Outcome) → Quiet l o → Quiet l o' → Quiet l (pick t o o')
 quiet-pick true l o o' h h' = h
 quiet-pick false l o o' h h' = h'
@@ -72,10 +74,12 @@ quiet-length w l n id (gives size) i =
     quiet-pick (ltb n size) l (refusal l SIZE) (readEntry w l id size) (quiet-refusal l SIZE)
     (record { geometry = refl; mode = refl; oldest = refl; append = refl; request = refl; turn = rests (idle-rests i) at-read })
 
+-- by where it reads
 quiet-place : (w : ℕ) (l : Log) (volume page : List ℕ) (n : ℕ) (a : Answered) → l .state ≡ Idle → Quiet l (readPlace w l volume page n a)
 quiet-place w l volume page n (refuses a) i = quiet-refusal l a
 quiet-place w l volume page n (gives id) i = quiet-length w l n id (entryLength w (l .geometry .p) (l .append) volume page id) i
 
+-- a read that passed its checks
 quiet-runs : (w : ℕ) (l : Log) (volume page : List ℕ) (n : ℕ) → l .state ≡ Idle → Quiet l (readRuns w l volume page n)
 unfolding readRuns
 quiet-runs w l volume page n i =
@@ -83,6 +87,7 @@ quiet-runs w l volume page n i =
     (record { geometry = refl; mode = refl; oldest = refl; append = refl; request = refl; turn = same refl refl })
     (quiet-unless (unlessSet (l .read-client)) l (readPlace w l volume page n (found w l volume page)) (λ e. quiet-place w l volume page n (found w l volume page) i))
 
+-- every read
 pub quiet-read : (w : ℕ) (l : Log) (volume page : List ℕ) (hold room n : ℕ) → Quiet l (unless (readChecks w l (length volume) (length page) hold room n) l (readRuns w l volume page n))
 unfolding readRefusal
 quiet-read w l volume page hold room n =
@@ -112,6 +117,7 @@ deferred-rests Append e = let z : _≡_ {A = ℕ} 0 1 = cc in absurd (omega arit
 deferred-rests Sync e = let z : _≡_ {A = ℕ} 0 1 = cc in absurd (omega arith)
 deferred-rests Erase e = let z : _≡_ {A = ℕ} 0 1 = cc in absurd (omega arith)
 
+-- every deferred call
 pub quiet-deferred : (w : ℕ) (l : Log) (volume page hold : ℕ) → Quiet l (deferred w l volume page hold)
 unfolding deferred
 quiet-deferred w l volume page hold =
@@ -144,6 +150,7 @@ under-nothing at-idle idle = refl
 under-nothing at-read read = refl
 under-nothing at-seek seek = refl
 
+-- and where nothing is under way, the state may rest
 pub under-rests : {w : ℕ} {g : Geometry} {circular : Bool} {x : World} {b : Book} {o : ℕ} {s : State} {op : Operation} → Rests s → op ≡ nothing → Under w g circular x b o s op
 under-rests {w} {g} {circular} {x} {b} {o} {s} {op} r e = subst (Under w g circular x b o s) (sym e) (go s r)
   where

@@ -32,6 +32,7 @@ at-oldest : (w : ℕ) (g : Geometry) (circular read-client append-client : Bool)
 at-oldest w g circular read-client append-client volume none = (refl, refl)
 at-oldest w g circular read-client append-client volume (some x) = (refl, refl)
 
+-- and so does what restart restores
 restored-rests : (w : ℕ) (g : Geometry) (circular read-client append-client : Bool) (volume : List ℕ)
     → (restoredLog w g circular read-client append-client volume .read ≡ restoredLog w g circular read-client append-client volume .oldest)
     × (restoredLog w g circular read-client append-client volume .state ≡ Idle)
@@ -51,6 +52,7 @@ module _ {w : ℕ} {g : Geometry} {circular : Bool} (x : World) (b : Book) (volu
   abbrev pageBy : Bool → List ℕ
   pageBy t = pick t (restoredPage w g circular volume page) page
 
+  -- a restart by whether SHAPE refuses it
   by-shape : (t : Bool) → shapeFits w g (length volume) (length page) (length hold) ≡ t
       → Restarts w g circular (restartedWorld x volume (pageBy t) hold (answered t)) (restarted w g circular b (some (restartNumber (answered t)))) (restartNumber (answered t))
   by-shape false h = record { keeps = record { books = bk; powered = refl }; finds = λ e. absurd (omega arith) }

@@ -65,10 +65,12 @@ module _ {w : ℕ} (x : World) (b : Book) (bk : Books w (x .log .geometry) (x .l
   flush-keeps busy u i s = record { books = bk; powered = flush-refused bk r Sync (x .log .kept) busy busy-not (x .hold) i (some-entry u) (r .hold-length) s }
   flush-keeps fail u i s = record { books = bk; powered = flush-refused bk r Sync (x .log .kept) fail fail-not (x .hold) i (some-entry u) (r .hold-length) s }
 
+  -- a log that is free is idle
   free-idle : unlessFree (x .log) ≡ none → x .log .state ≡ Idle
   unfolding unlessFree
   free-idle e = is-idle (x .log .state) (or-none (unlessIdle (x .log .state)) (unlessSet (x .log .append-client)) e .0)
 
+  -- the call by its tests keeps the invariant
   by-tests : (d : Option ℕ) (t : Bool) (c : Option ℕ) → synced w (x .log) ≡ t → unlessFree (x .log) ≡ c → stateFits w (doneBy d t c .outcome .log) ≡ true
       → Inv w g (x .log .circular) (worldBy (doneBy d t c)) b
   by-tests (some a) t c h i s = refused-inv bk r word a

@@ -150,6 +150,7 @@ pub record Dead (w : ℕ) (g : Geometry) (x : World) : Type 0 where
   pub off : x .power ≡ false
   pub unfit : (page hold : List ℕ) → shapeFits w g (length (x .volume)) (length page) (length hold) ≡ false
 
+-- one event, where every restart is refused
 dead-keeps : {w : ℕ} {g : Geometry} (circular : Bool) (s : Bench) → Dead w g (s .world) → (e : Event)
     → Promised w g e (step w g circular (s .world) e .told .answer) (stepped w g circular s e) × Dead w g (stepped w g circular s e .world)
 unfolding step restart
@@ -173,6 +174,7 @@ dead-keeps {w} {g} circular s d e =
     go (event.erase-complete good left word) = (tt, d)
     go (event.cut left wipe) = (tt, d)
 
+-- and every list
 dead-list : {w : ℕ} {g : Geometry} (circular : Bool) (s : Bench) → Dead w g (s .world) → (es : List Event) → AllPromised w g circular s es
 dead-list circular s d [] = tt
 dead-list {w} {g} circular s d (e ∷ es) = let k = dead-keeps circular s d e in (k .0, dead-list circular (stepped w g circular s e) (k .1) es)

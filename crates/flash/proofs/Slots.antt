@@ -18,6 +18,7 @@ use Rattle.flash.specs.Flash.{slotFits, inSlot, blank, blankSlot}
 pub has-slot : (p s v : ℕ) → 0 < p → s < v / p → slotFits p s v ≡ true
 has-slot p s v z h = let q = parts v z in le-leb (s * p + p) v (omega (arith, pages-le p h, q .split))
 
+-- and no others
 pub no-slot : (p s v : ℕ) → 0 < p → v / p ≤ s → slotFits p s v ≡ false
 no-slot p s v z h = let q = parts v z in lt-leb (s * p + p) v (omega (arith, pages-le p h, q .split, q .rest))
 
