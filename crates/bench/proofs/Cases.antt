@@ -12,7 +12,7 @@ use Rattle.page.specs.Flush.{overwritten}
 use Rattle.log.specs.Log.{Geometry, Log}
 use Rattle.log.specs.Check.{sizesFit, shapeFits, stateFits}
 use Rattle.log.specs.Open.{mayOpen}
-use Rattle.log.specs.Restart.{atRest, opens, recoveredId, restoredLog, restoredPage, restart, restartPage}
+use Rattle.recovery.specs.Restart.{atRest, opens, recoveredId, restoredLog, restoredPage, restart, restartPage}
 use Rattle.call.specs.Outcome.{ok}
 use Rattle.call.specs.Gate.{gate, unlessFree}
 use Rattle.buffering.specs.Flush.{flushedPage, lostPage, movedRead, movedOldest, flush}

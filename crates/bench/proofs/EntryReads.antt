@@ -10,7 +10,7 @@ use lib.ListN.{length}
 use borrow.Author.Tests.{le-ltb}
 use Rattle.page.specs.Sizes.{ceiling}
 use Rattle.page.specs.Answered.{gives, refuses}
-use Rattle.page.specs.Held.{bytesAt, nextEntry, entryLength}
+use Rattle.lookup.specs.Held.{bytesAt, nextEntry, entryLength}
 use Rattle.page.proofs.Overwrites.{overwrite-same}
 use Rattle.log.specs.Answer.{FAIL}
 use Rattle.log.specs.Log.{Geometry, State, Idle, Read, Log}

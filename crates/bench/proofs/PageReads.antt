@@ -16,13 +16,13 @@ use Rattle.page.specs.Word.{le, wordAt}
 use Rattle.page.specs.Slots.{slotBytes}
 use Rattle.page.specs.Layout.{encode, encodeAll, entriesLength, pageLength, encodePage, Good, AllGood}
 use Rattle.page.specs.Answered.{gives, refuses}
-use Rattle.page.specs.Held.{bytesAt, byteAt, heldWord, place, nextEntry, entryLength}
+use Rattle.lookup.specs.Held.{bytesAt, byteAt, heldWord, place, nextEntry, entryLength}
 use Rattle.page.proofs.Kit.{page-of, rest-of, parts, slot-of, wide}
 use Rattle.page.proofs.Slots.{length-slot}
 use Rattle.page.proofs.Overwrites.{window-left}
 use Rattle.page.proofs.Walks.{stop-pad}
 use Rattle.page.proofs.Pages.{length-encodePage, encodeAll-append, entriesLength-append, entry-word, entry-data, entry-goes, good-small}
-use Rattle.page.proofs.Helds.{holder-buffer, holder-volume, first-byteAt}
+use Rattle.lookup.proofs.Helds.{holder-buffer, holder-volume, first-byteAt}
 use Rattle.log.specs.Answer.{FAIL}
 use Rattle.log.specs.Log.{Geometry, Idle}
 use Rattle.bench.specs.Promise.{ReadsOn}

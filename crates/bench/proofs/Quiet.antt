@@ -9,7 +9,7 @@ use lib.ListN.{length, take}
 use lib.Dec.{ltb}
 use Rattle.page.specs.Pick.{pick}
 use Rattle.page.specs.Answered.{Answered, gives, refuses}
-use Rattle.page.specs.Held.{entryLength}
+use Rattle.lookup.specs.Held.{entryLength}
 use Rattle.log.specs.Answer as answer
 use Rattle.log.specs.Answer.{Request, SIZE}
 use Rattle.log.specs.Log.{Geometry, State, Idle, Read, Seek, Append, Sync, Erase, Log}

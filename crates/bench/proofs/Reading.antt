@@ -20,7 +20,7 @@ use Rattle.page.specs.Slots.{slotBytes}
 use Rattle.page.specs.Layout.{pageLength, encodePage, wholePage}
 use Rattle.page.specs.Header.{Extent}
 use Rattle.page.specs.Answered.{refuses}
-use Rattle.page.specs.Held.{byteAt, heldWord, place, entryLength}
+use Rattle.lookup.specs.Held.{byteAt, heldWord, place, entryLength}
 use Rattle.page.proofs.Kit.{Facts, facts, page-of, rest-of, pages-le}
 use Rattle.page.proofs.Headers.{take-replicate, le-ones}
 use Rattle.page.proofs.Pages.{length-encodePage, begins-whole}

@@ -28,10 +28,10 @@ use Rattle.page.proofs.Pages.{length-wholePage, walked-page, begins-header, beg
 use Rattle.log.specs.Log.{Geometry, Log}
 use Rattle.log.specs.Check.{stateFits}
 use Rattle.log.specs.Open.{mayOpen, openedId, openedPage}
-use Rattle.log.specs.Restart.{atRest, newestPage, walkedId, opens, recoveredId, recoveredPage, logFrom, pageFrom, restoredLog, restoredPage}
+use Rattle.recovery.specs.Restart.{atRest, newestPage, walkedId, opens, recoveredId, recoveredPage, logFrom, pageFrom, restoredLog, restoredPage}
 use Rattle.log.proofs.Checks.{fits-state}
 use Rattle.log.proofs.Opens.{ltb-leb}
-use Rattle.log.proofs.RestartState.{restored-fits}
+use Rattle.recovery.proofs.RestartState.{restored-fits}
 use Rattle.flash.specs.Flash.{nothing, blank}
 use Rattle.bench.specs.Book.{Page, Book, emptyPage, withOpen, allowed, fills, pages, newest, least, reopened}
 use Rattle.bench.specs.Promise.{bookOldest, bookAppend}

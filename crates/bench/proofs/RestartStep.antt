@@ -11,7 +11,7 @@ use Rattle.page.specs.Header.{Extent}
 use Rattle.log.specs.Answer.{OK, SHAPE}
 use Rattle.log.specs.Log.{Geometry, Idle}
 use Rattle.log.specs.Check.{shapeFits}
-use Rattle.log.specs.Restart.{Restarted, started, refused, headers, logFrom, restoredLog, restoredPage, restart, restartPage}
+use Rattle.recovery.specs.Restart.{Restarted, started, refused, headers, logFrom, restoredLog, restoredPage, restart, restartPage}
 use Rattle.log.proofs.Checks.{shape-fits}
 use Rattle.bench.specs.World.{World, Ended, restartStep, restartedWorld, restartNumber}
 use Rattle.bench.specs.Book.{Page, Book, newest, least, pages, reopened, restarted}

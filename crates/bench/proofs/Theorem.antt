@@ -11,7 +11,7 @@ use Rattle.page.specs.Sizes.{Width, Sizes}
 use Rattle.log.specs.Answer.{OK, SHAPE}
 use Rattle.log.specs.Log.{Geometry, Log}
 use Rattle.log.specs.Check.{sizesFit, shapeFits}
-use Rattle.log.specs.Restart.{restart}
+use Rattle.recovery.specs.Restart.{restart}
 use Rattle.log.proofs.Checks.{sizes-fit, shape-fits, sizes-of}
 use Rattle.call.specs.Outcome.{ok}
 use Rattle.engine.proofs.ReadsKeep.{read-keeps, seek-keeps, deferred-keeps}
@@ -58,9 +58,9 @@ on-own : {w : ℕ} (x : World) (b : Book) → Inv w (x .log .geometry) (x .log .
     → Keeps w (x .log .geometry) (x .log .circular) e (stepOn w (x .log .geometry) (x .log .circular) x e .told .answer) (onBench w (x .log .geometry) (x .log .circular) x b e)
 unfolding note
 on-own x b i r (event.append bytes n word) clear = record { keeps = append-step x b (i .books) r bytes n word clear; promised = tt }
-on-own {w} x b i r (event.read bytes n) clear = record {
-  keeps = quiet-inv (i .books) r ok _ (quiet-read w (x .log) (x .volume) (x .page) (length (x .hold)) (length bytes) n)
-      (read-keeps (i .books .sizes .page .width) (x .log) (x .volume) (x .page) (length (x .hold)) (length bytes) n (r .fits));
+on-own {w} x b i r (event.read room n) clear = record {
+  keeps = quiet-inv (i .books) r ok _ (quiet-read w (x .log) (x .volume) (x .page) (length (x .hold)) room n)
+      (read-keeps (i .books .sizes .page .width) (x .log) (x .volume) (x .page) (length (x .hold)) room n (r .fits));
   promised = tt;
 }
 on-own {w} x b i r (event.seek id) clear = record {
@@ -98,7 +98,7 @@ off-keeps : {w : ℕ} {g : Geometry} {circular : Bool} (x : World) (b : Book) �
 unfolding note
 off-keeps x b i (event.restart left wipe read-client append-client page hold) = restart-kept (restart-keeps x b (x .volume) (i .books) read-client append-client page hold unended)
 off-keeps x b i (event.append bytes n word) = record { keeps = i; promised = tt }
-off-keeps x b i (event.read bytes n) = record { keeps = i; promised = tt }
+off-keeps x b i (event.read room n) = record { keeps = i; promised = tt }
 off-keeps x b i (event.seek id) = record { keeps = i; promised = tt }
 off-keeps x b i (event.sync word) = record { keeps = i; promised = tt }
 off-keeps x b i (event.erase word) = record { keeps = i; promised = tt }
@@ -165,7 +165,7 @@ dead-keeps {w} {g} circular s d e =
     go (event.restart left wipe read-client append-client page hold) =
         rw (d .unfit page hold) ((λ i. let z : SHAPE ≡ OK = some-ok i in absurd (omega arith)), record { off = refl; unfit = d .unfit })
     go (event.append bytes n word) = (tt, d)
-    go (event.read bytes n) = (tt, d)
+    go (event.read room n) = (tt, d)
     go (event.seek id) = (tt, d)
     go (event.sync word) = (tt, d)
     go (event.erase word) = (tt, d)

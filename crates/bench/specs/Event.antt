@@ -5,11 +5,11 @@ use mathlib.Core.List.{List}
 use Rattle.call.specs.Outcome.{Word}
 use Rattle.flash.specs.Flash.{Left, new, Erased, erased}
 
--- A call has its arguments. A completion is good or not; what a failed or cut operation left is said for a write and for an erase, and looked at where one is under way.
+-- A call has its arguments; of a read's buffer its length, since its bytes are not looked at. A completion is good or not; what a failed or cut operation left is said for a write and for an erase, and looked at where one is under way.
 -- A restart brings its client flags and its page and hold buffers.
 pub data Event : Type 0 where
   append : List ℕ → ℕ → Word → Event
-  read : List ℕ → ℕ → Event
+  read : ℕ → ℕ → Event
   seek : ℕ → Event
   sync : Word → Event
   erase : Word → Event

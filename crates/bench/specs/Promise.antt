@@ -100,7 +100,7 @@ entryOf b (event.write-complete good left) h = doneEntry (h .report) (b .waiting
 entryOf b (event.erase-complete good left word) h = none
 entryOf b (event.erase word) h = none
 entryOf b (event.restart left wipe read-client append-client page hold) h = none
-entryOf b (event.read bytes n) h = none
+entryOf b (event.read room n) h = none
 entryOf b (event.seek id) h = none
 entryOf b (event.sync word) h = none
 entryOf b event.deferred h = none
@@ -129,7 +129,7 @@ pub record Finds (w : ℕ) (g : Geometry) (s : Bench) : Type 0 where
 abbrev pub Promised : ℕ → Geometry → Event → Option ℕ → Bench → Type 0
 Promised w g (event.restart left wipe read-client append-client page hold) a s = a ≡ some OK → Finds w g s
 Promised w g (event.append bytes n word) a s = Unit {0}
-Promised w g (event.read bytes n) a s = Unit {0}
+Promised w g (event.read room n) a s = Unit {0}
 Promised w g (event.seek id) a s = Unit {0}
 Promised w g (event.sync word) a s = Unit {0}
 Promised w g (event.erase word) a s = Unit {0}

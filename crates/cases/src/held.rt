@@ -1,9 +1,9 @@
 // The bytes at a position, the next entry and its length: P = 32, N = 4, the append ID in page 1.
 ghost use Prim.Native.Nat.{_<_, _≤_};
 ghost use Rattle.page.specs.Sizes.{ceiling};
-ghost use Rattle.page.specs.Held.{Lent};
-use page::held::EntryLength;
-use page::held::Place;
+ghost use Rattle.lookup.specs.Held.{Lent};
+use lookup::held::EntryLength;
+use lookup::held::Place;
 use page::id::EntryID;
 use say::build;
 use say::print;
@@ -15,11 +15,11 @@ fn next<'a>(volume: &'a [u8], buffer: &'a [u8], a: usize, r: usize)
     print::label(b"append ID, read ID, place, length", 0);
     print::number(a);
     print::number(r);
-    match page::held::get_next_entry(volume, buffer, 32, EntryID(a), EntryID(r)) {
+    match lookup::held::get_next_entry(volume, buffer, 32, EntryID(a), EntryID(r)) {
         Place::End => print::word(b"end"),
         Place::At(id) => {
             print::number(id.0);
-            match page::held::read_entry_header(volume, buffer, 32, EntryID(a), id) {
+            match lookup::held::read_entry_header(volume, buffer, 32, EntryID(a), id) {
                 EntryLength::Bad => print::word(b"bad"),
                 EntryLength::Is(n) => print::number(n),
             }
@@ -34,7 +34,7 @@ fn byte<'a>(volume: &'a [u8], buffer: &'a [u8], a: usize, pos: usize)
     print::label(b"append ID, position, byte", 0);
     print::number(a);
     print::number(pos);
-    let b = page::held::get_byte(volume, buffer, 32, EntryID(a), EntryID(pos));
+    let b = lookup::held::get_byte(volume, buffer, 32, EntryID(a), EntryID(pos));
     print::number(b as usize);
     print::end();
 }

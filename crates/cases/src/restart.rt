@@ -1,5 +1,5 @@
 // Restarts, at P = 32 unless said otherwise. `names` has a line for each.
-use log::restart::Restarted;
+use recovery::restart::Restarted;
 use log::state::Geometry;
 use log::state::Log;
 use say::build;
@@ -16,7 +16,7 @@ fn restart(names: &[u8], k: usize, geometry: Geometry, circular: bool, volume: &
     let mut page = [1u8; 32];
     let hold = [2u8; 32];
     print::label(names, k);
-    match log::restart::restart(geometry, circular, true, true, volume, &mut page, &hold) {
+    match recovery::restart::restart(geometry, circular, true, true, volume, &mut page, &hold) {
         Restarted::Shape => print::number(20),
         Restarted::Log(log) => {
             print::number(0);

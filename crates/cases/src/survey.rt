@@ -1,8 +1,8 @@
 // Surveys of a volume of 4 pages of 32 bytes, and the capacity. `names` has a line for each case.
 use crate::restart::four;
 use log::get::Capacity;
-use log::restart::Restarted;
-use log::survey::Surveyed;
+use recovery::restart::Restarted;
+use recovery::survey::Surveyed;
 use say::build;
 use say::print;
 
@@ -22,7 +22,7 @@ fn words(ids: &[u32]) {
 // A survey: its answer, the count, and the slice.
 fn survey(names: &[u8], k: usize, volume: &[u8], ids: &mut [u32]) {
     print::label(names, k);
-    match log::survey::survey(four(), volume, ids) {
+    match recovery::survey::survey(four(), volume, ids) {
         Surveyed::Shape => print::number(20),
         Surveyed::Size => print::number(7),
         Surveyed::Count(n) => {
@@ -65,7 +65,7 @@ fn capacity(names: &[u8], k: usize) {
     let mut page = [0u8; 32];
     let hold = [0u8; 32];
     print::label(names, k);
-    match log::restart::restart(four(), true, false, false, &volume, &mut page, &hold) {
+    match recovery::restart::restart(four(), true, false, false, &volume, &mut page, &hold) {
         Restarted::Shape => print::number(20),
         Restarted::Log(log) => match log::get::get_size(log) {
             Capacity::Bytes(n) => print::number(n),

@@ -11,8 +11,8 @@ use Rattle.log.specs.Answer as answer
 use Rattle.log.specs.Log.{Geometry, State, Idle, Append, Sync, Log}
 use Rattle.log.specs.Check.{sizesFit, shapeFits, stateFits}
 use Rattle.log.specs.Open.{mayOpen}
-use Rattle.log.specs.Restart.{atRest}
-use Rattle.log.proofs.Cases as restart
+use Rattle.recovery.specs.Restart.{atRest}
+use Rattle.recovery.proofs.Cases as restart
 use Rattle.call.specs.Outcome.{Outcome, ok, refusal, unless, moved}
 use Rattle.call.specs.Gate.{gate, unlessFree}
 use Rattle.buffering.specs.Flush.{flushedPage, lostPage, movedRead, movedOldest, flush}

@@ -14,13 +14,13 @@ use Rattle.page.specs.Sizes.{Width, Sizes, ceiling}
 use Rattle.page.specs.Id.{roundUp}
 use Rattle.page.specs.Answered.{Answered, gives, refuses}
 use Rattle.page.specs.Header.{Extent}
-use Rattle.page.specs.Held.{entryLength}
+use Rattle.lookup.specs.Held.{entryLength}
 use Rattle.page.proofs.Kit.{facts, parts, pages-le, pages-lt}
 use Rattle.log.specs.Answer.{OK, FAIL, SIZE, CANCEL, SHAPE, append-done}
 use Rattle.log.specs.Log.{Geometry, State, Idle, Read, Seek, Append, Sync, Erase, Log}
 use Rattle.log.specs.Check.{shapeFits}
 use Rattle.log.specs.Open.{mayOpen}
-use Rattle.log.specs.Restart.{started, refused, headers, logFrom, restoredLog, restart, Restarts}
+use Rattle.recovery.specs.Restart.{started, refused, headers, logFrom, restoredLog, restart, Restarts}
 use Rattle.call.specs.Outcome.{Outcome, Word, ok, busy, fail, orElse, refusal, unless}
 use Rattle.call.specs.Gate.{gate, unlessDeferred, unlessSet, unlessFree}
 use Rattle.buffering.specs.Flush.{flush}

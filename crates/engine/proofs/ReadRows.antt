@@ -11,7 +11,7 @@ use lib.Dec.{ltb, leb, eqb}
 use borrow.Author.Tests.{ltb-true, ltb-false, eqb-false, lt-ltb, le-ltb}
 use Rattle.page.specs.Pick.{pick}
 use Rattle.page.specs.Answered.{Answered, gives, refuses}
-use Rattle.page.specs.Held.{place, nextEntry, heldWord, entryLength}
+use Rattle.lookup.specs.Held.{place, nextEntry, heldWord, entryLength}
 use Rattle.log.specs.Answer.{OK, FAIL, BUSY, RESERVE, INVAL, SIZE, CANCEL, SHAPE, STATE}
 use Rattle.log.specs.Log.{Idle, Log}
 use Rattle.log.specs.Check.{shapeFits, stateFits}

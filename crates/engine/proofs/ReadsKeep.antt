@@ -11,7 +11,7 @@ use borrow.Author.Tests.{leb-true}
 use Rattle.page.specs.Pick.{pick}
 use Rattle.page.specs.Sizes.{Width, Sizes, ceiling}
 use Rattle.page.specs.Answered.{Answered, gives, refuses}
-use Rattle.page.specs.Held.{entryLength}
+use Rattle.lookup.specs.Held.{entryLength}
 use Rattle.page.proofs.Kit.{facts, both, parts}
 use Rattle.log.specs.Answer.{INVAL, SIZE}
 use Rattle.log.specs.Log.{Idle, Log}

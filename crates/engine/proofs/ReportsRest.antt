@@ -8,7 +8,7 @@ use lib.ListN.{length}
 use lib.Dec.{ltb}
 use Rattle.page.specs.Pick.{pick}
 use Rattle.page.specs.Answered.{Answered, gives, refuses}
-use Rattle.page.specs.Held.{entryLength}
+use Rattle.lookup.specs.Held.{entryLength}
 use Rattle.log.specs.Answer.{OK, SIZE, CANCEL, nothing}
 use Rattle.log.specs.Log.{State, Idle, Read, Seek, Append, Sync, Erase, Log}
 use Rattle.call.specs.Outcome.{Outcome, Word, ok, busy, fail, orElse, refusal, unless}

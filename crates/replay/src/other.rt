@@ -6,7 +6,7 @@ use log::get;
 use log::get::Capacity;
 use log::state::Log;
 use log::state::State;
-use log::survey::Surveyed;
+use recovery::survey::Surveyed;
 use page::id::EntryID;
 use script::parse::Fault;
 use script::text;
@@ -31,7 +31,7 @@ fn survey_count(answer: Surveyed) -> usize {
 
 fn survey_into(log: Log, volume: &[u8], ids: &mut [u32], out: &mut [u8]) {
     let geometry = log.geometry;
-    let answer = log::survey::survey(geometry, volume, ids);
+    let answer = recovery::survey::survey(geometry, volume, ids);
     let start = trace::pair(out, b"survey", survey_answer(answer), survey_count(answer));
     let stop = trace::words(out, start, ids);
     trace::end(out, stop);

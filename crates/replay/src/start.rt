@@ -1,7 +1,7 @@
 // The first three lines: sizes, volume and restart.
 use crate::world;
 use crate::world::World;
-use log::restart::Restarted;
+use recovery::restart::Restarted;
 use log::state::Log;
 use script::parse::Fault;
 use script::text;
@@ -193,7 +193,7 @@ fn run(
 ) -> World {
     let log = world.log;
     let geometry = log.geometry;
-    let answer = log::restart::restart(geometry, log.circular, read, append, volume, page, hold);
+    let answer = recovery::restart::restart(geometry, log.circular, read, append, volume, page, hold);
     finish(world, answer, page, hold, out)
 }
 
