@@ -32,7 +32,7 @@ use Rattle.engine.proofs.Openable.{append-may, unfit-page}
 use Rattle.flash.specs.Flash.{Operation, nothing}
 use Rattle.bench.specs.World.{World, unended, Done, appends, delivered}
 use Rattle.bench.specs.Book.{Book, appended, withOpen, joined, note}
-use Rattle.bench.specs.Event as event
+use Rattle.events.specs.Event as event
 use Rattle.bench.specs.Promise.{doneEntry, entryOf, Clear}
 use Rattle.bench.proofs.Invariant.{Books, Waits, Under, idle, append, Running, Inv}
 use Rattle.bench.proofs.BookSteps.{books-same, books-join}

@@ -21,8 +21,8 @@ use Rattle.writing.specs.Append.{fitsPage, appendRefusal, appendRuns, appendPag
 use Rattle.writing.specs.Sync.{syncRuns, syncPage}
 use Rattle.engine.proofs.Cases as engine
 use Rattle.flash.specs.Flash.{Left, blanked, new, erased, blank, inSlot}
-use Rattle.bench.specs.Event as event
-use Rattle.bench.specs.Event.{Event}
+use Rattle.events.specs.Event as event
+use Rattle.events.specs.Event.{Event}
 use Rattle.bench.specs.World.{step}
 use Rattle.bench.specs.Promise.{run, start}
 

@@ -2,7 +2,7 @@
 use Prim.Native.Nat.{ℕ}
 use mathlib.Core.Path.{refl}
 use Rattle.flash.specs.Flash.{Left, Erased}
-use Rattle.bench.specs.Event as event
+use Rattle.events.specs.Event as event
 use Rattle.bench.specs.World.{World, afterEnd, endedBy, cutStep}
 use Rattle.bench.specs.Book.{Book, leftIn, note}
 use Rattle.bench.proofs.Invariant.{Books, Running, Inv}

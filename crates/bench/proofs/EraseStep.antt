@@ -24,7 +24,7 @@ use Rattle.call.proofs.Checks.{or-none, is-idle}
 use Rattle.erasing.specs.Erase.{eraseStarts, eraseCall, lastErased, reset, readAfterBusy, erasesNext, eraseRuns, eraseBuffer, eraseChecks}
 use Rattle.engine.proofs.ErasesKeep.{erase-fits, erase-call-keeps}
 use Rattle.flash.specs.Flash.{Operation, nothing, writing, erasing, started, new, Erased, kept, erased}
-use Rattle.bench.specs.Event as event
+use Rattle.events.specs.Event as event
 use Rattle.bench.specs.World.{World, unended, erasedSlot, erases, eraseCompletes, Step, delivered, afterEnd, strayStep, eraseStep}
 use Rattle.bench.specs.Book.{Page, Book, emptyPage, withSlot, withOpen, leftIn, wipedAll, asked, note}
 use Rattle.bench.proofs.Invariant.{Has, Books, Under, idle, read, seek, stuck, erase, sync, append, Running, Inv}

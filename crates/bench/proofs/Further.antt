@@ -20,8 +20,8 @@ use Rattle.call.specs.Gate.{gate, unlessWriting, unlessErasing}
 use Rattle.buffering.specs.Store.{stored}
 use Rattle.completing.specs.WriteComplete.{opensNext, opened, notStored, appendWritten, syncWritten, writeRuns, writeChecks}
 use Rattle.flash.specs.Flash.{Operation, nothing, writing, erasing, Left, old, blanked, new, Erased, kept, erased}
-use Rattle.bench.specs.Event as event
-use Rattle.bench.specs.Event.{Event, writeLeaves, eraseLeaves}
+use Rattle.events.specs.Event as event
+use Rattle.events.specs.Event.{Event, writeLeaves, eraseLeaves}
 use Rattle.bench.specs.World.{World, Ended, unended, Heard, Step, writeCompletes, delivered, afterEnd, endedBy, strayStep, writeStep, eraseStep, stepOn, stepOff, stepBy, step}
 use Rattle.bench.specs.Book.{Page, Book, emptyPage, leftIn, appended, written, wipedAll, asked, restarted, fed, note}
 use Rattle.bench.specs.Promise.{Bench, stepped, run, entryOf, Clear, AllClear, NoHeader, start}

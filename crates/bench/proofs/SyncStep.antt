@@ -20,7 +20,7 @@ use Rattle.writing.specs.Sync.{synced, syncRuns, syncPage}
 use Rattle.engine.proofs.WritesKeep.{sync-keeps}
 use Rattle.bench.specs.World.{World, unended, Done, syncs, delivered}
 use Rattle.bench.specs.Book.{Book, note}
-use Rattle.bench.specs.Event as event
+use Rattle.events.specs.Event as event
 use Rattle.bench.proofs.Invariant.{Books, Under, sync, Running, Inv}
 use Rattle.bench.proofs.Quiet.{refused-inv}
 use Rattle.bench.proofs.Appends.{offset-empty}

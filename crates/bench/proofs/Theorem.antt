@@ -16,8 +16,8 @@ use Rattle.log.proofs.Checks.{sizes-fit, shape-fits, sizes-of}
 use Rattle.call.specs.Outcome.{ok}
 use Rattle.engine.proofs.ReadsKeep.{read-keeps, seek-keeps, deferred-keeps}
 use Rattle.flash.specs.Flash.{Left, Erased}
-use Rattle.bench.specs.Event as event
-use Rattle.bench.specs.Event.{Event}
+use Rattle.events.specs.Event as event
+use Rattle.events.specs.Event.{Event}
 use Rattle.bench.specs.World.{World, unended, endedBy, afterEnd, stepOn, stepOff, stepBy, step}
 use Rattle.bench.specs.Book.{Book, emptyBook, leftIn, note}
 use Rattle.bench.specs.Promise.{Bench, stepped, run, entryOf, Clear, AllClear, NoHeader, Promised, AllPromised, start}

@@ -25,8 +25,8 @@ use Rattle.completing.specs.WriteComplete.{opensNext, opened, notStored, syncDo
 use Rattle.engine.proofs.StateKit.{state-set}
 use Rattle.engine.proofs.WritesKeep.{opened-fits, write-fits}
 use Rattle.flash.specs.Flash.{Operation, nothing, started, Left, new, inSlot, afterWrite}
-use Rattle.bench.specs.Event as event
-use Rattle.bench.specs.Event.{writeLeaves}
+use Rattle.events.specs.Event as event
+use Rattle.events.specs.Event.{writeLeaves}
 use Rattle.bench.specs.World.{World, wrote, heard, writeStep}
 use Rattle.bench.specs.Book.{Book, allowed, fills, leftIn, withOpen, joined, emptyPage, note}
 use Rattle.bench.specs.Promise.{doneEntry, entryOf, Clear}

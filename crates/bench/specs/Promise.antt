@@ -17,8 +17,8 @@ use Rattle.log.specs.Log.{Geometry, Log}
 use Rattle.reading.specs.Read.{Reads}
 use Rattle.reading.specs.Deferred.{deferred}
 use Rattle.call.specs.Outcome.{Outcome}
-use Rattle.bench.specs.Event as event
-use Rattle.bench.specs.Event.{Event}
+use Rattle.events.specs.Event as event
+use Rattle.events.specs.Event.{Event}
 use Rattle.bench.specs.World.{World, Heard, Step, step, before}
 use Rattle.bench.specs.Book.{Page, Book, emptyBook, pages, least, note}
 

@@ -1,7 +1,7 @@
 // Restarts, at P = 32 unless said otherwise. `names` has a line for each.
-use recovery::restart::Restarted;
 use log::state::Geometry;
 use log::state::Log;
+use recovery::restart::Restarted;
 use say::build;
 use say::print;
 

@@ -1,0 +1,2 @@
+-- The events of a list.
+pub mod Event
