@@ -1,0 +1,2 @@
+-- What the code's worlds and events say.
+pub mod Step
