@@ -1,12 +1,11 @@
 // Replays a script of calls, read from standard input, and writes the trace.
-mod erases;
+mod forced;
 mod lines;
 mod other;
-mod reads;
-mod run;
+mod power;
+mod show;
 mod start;
 mod world;
-mod writes;
 
 ghost use mathlib.Core.Path.{_≡_};
 ghost use lib.ListN.{length};
@@ -67,6 +66,21 @@ fn called(
     )
 }
 
+// What is due: a restart may come anywhere after the first.
+fn due(stage: Stage, line: &[u8]) -> Stage {
+    match stage {
+        Stage::Sizes => Stage::Sizes,
+        Stage::Volume => Stage::Volume,
+        Stage::Restart => Stage::Restart,
+        Stage::Calls => {
+            if text::same(text::word(line, 0), b"restart") {
+                return Stage::Restart;
+            }
+            Stage::Calls
+        }
+    }
+}
+
 // A line of the script, by what is due.
 fn staged(
     world: World,
@@ -78,7 +92,7 @@ fn staged(
     out: &mut [u8],
 ) -> World {
     let stage = world.stage;
-    match stage {
+    match due(stage, line) {
         Stage::Sizes => start::sizes(line, world),
         Stage::Volume => start::volume(line, world, volume),
         Stage::Restart => start::restart(line, world, volume, page, hold, out),

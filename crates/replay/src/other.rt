@@ -6,11 +6,12 @@ use log::get;
 use log::get::Capacity;
 use log::state::Log;
 use log::state::State;
-use recovery::survey::Surveyed;
 use page::id::EntryID;
+use recovery::survey::Surveyed;
 use script::parse::Fault;
 use script::text;
 use script::trace;
+use stepping::world as bench;
 
 // The survey's answer and count.
 fn survey_answer(answer: Surveyed) -> usize {
@@ -39,12 +40,18 @@ fn survey_into(log: Log, volume: &[u8], ids: &mut [u32], out: &mut [u8]) {
 
 pub(crate) fn survey(world: World, count: usize, volume: &[u8], out: &mut [u8]) -> World {
     let mut ids = [4294967295u32; 4096];
-    survey_into(world.log, volume, text::front_words(&mut ids, count), out);
+    survey_into(
+        world.bench.log,
+        volume,
+        text::front_words(&mut ids, count),
+        out,
+    );
     world
 }
 
 pub(crate) fn getters(world: World, out: &mut [u8]) -> World {
-    let log = world.log;
+    let bench = world.bench;
+    let log = bench.log;
     let size = match get::get_size(log) {
         Capacity::Bytes(bytes) => bytes,
         Capacity::Shape => 0,
@@ -72,10 +79,11 @@ pub(crate) fn put(
     append: usize,
     length: usize,
 ) -> World {
-    if !world.power {
+    let bench = world.bench;
+    if !bench.power {
         return world::faulty(world, Fault::Place);
     }
-    let log = world.log;
+    let log = bench.log;
     let next = call::outcome::with(
         log,
         state,
@@ -84,5 +92,10 @@ pub(crate) fn put(
         EntryID(append),
         length,
     );
-    world::after(world, next, Operation::Nothing, true)
+    let put = bench::World {
+        power: true,
+        log: next,
+        operation: Operation::Nothing,
+    };
+    world::after(world, put, true)
 }

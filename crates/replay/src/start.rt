@@ -1,12 +1,15 @@
 // The first three lines: sizes, volume and restart.
+use crate::power;
+use crate::power::Ending;
 use crate::world;
 use crate::world::World;
-use recovery::restart::Restarted;
 use log::state::Log;
 use script::parse::Fault;
 use script::text;
 use script::text::Number;
 use script::trace;
+use stepping::world::Ended;
+use stepping::world::Step;
 
 // The buffers' length before the first restart: P where SHAPE admits P, else none.
 fn buffer_size(page_size: usize) -> usize {
@@ -84,8 +87,8 @@ fn all(line: &[u8], world: World, volume: &mut [u8]) -> World {
         return world::faulty(world, Fault::Number);
     };
     let Number::Value(size) = volume_size(
-        world.log.geometry.page_size,
-        world.log.geometry.page_count,
+        world.bench.log.geometry.page_size,
+        world.bench.log.geometry.page_count,
     ) else {
         return world::faulty(world, Fault::Volume);
     };
@@ -167,18 +170,19 @@ fn started(log: Log, page: &[u8], hold: &[u8], out: &mut [u8]) {
     trace::end(out, stop);
 }
 
-fn finish(world: World, answer: Restarted, page: &[u8], hold: &[u8], out: &mut [u8]) -> World {
-    match answer {
-        Restarted::Shape => {
-            refused(page, hold, out);
-            let log = world.log;
-            world::restarted(world, log, false, page.len(), hold.len())
-        }
-        Restarted::Log(log) => {
-            started(log, page, hold, out);
-            world::restarted(world, log, true, page.len(), hold.len())
-        }
+// The trace of a restart: the power is on where it was not refused.
+fn show(power: bool, log: Log, page: &[u8], hold: &[u8], out: &mut [u8]) {
+    if power {
+        return started(log, page, hold, out);
     }
+    refused(page, hold, out);
+}
+
+fn finish(world: World, step: Step, page: &[u8], hold: &[u8], out: &mut [u8]) -> World {
+    let bench = step.world;
+    let log = bench.log;
+    show(bench.power, log, page, hold, out);
+    world::restarted(world, bench, page.len(), hold.len())
 }
 
 // The log restarts with the buffers that are lent.
@@ -191,10 +195,21 @@ fn run(
     hold: &[u8],
     out: &mut [u8],
 ) -> World {
-    let log = world.log;
+    let bench = world.bench;
+    let log = bench.log;
     let geometry = log.geometry;
-    let answer = recovery::restart::restart(geometry, log.circular, read, append, volume, page, hold);
-    finish(world, answer, page, hold, out)
+    let step = stepping::power::restart(
+        geometry,
+        log.circular,
+        bench,
+        Ended::Nothing,
+        read,
+        append,
+        volume,
+        page,
+        hold,
+    );
+    finish(world, step, page, hold, out)
 }
 
 // Runs a restart on the parts of the buffers that are in use.
@@ -220,27 +235,17 @@ fn run_on(
     )
 }
 
-// `restart R A PAGE HOLD`
-pub(crate) fn restart(
+// The buffers are lent, and the log restarts.
+fn with_buffers(
     line: &[u8],
     world: World,
+    read: bool,
+    append: bool,
     volume: &[u8],
     page: &mut [u8],
     hold: &mut [u8],
     out: &mut [u8],
 ) -> World {
-    if !text::same(text::word(line, 0), b"restart") {
-        return world::faulty(world, Fault::Place);
-    }
-    if !text::last(line, 4) {
-        return world::faulty(world, Fault::Words);
-    }
-    let Flag::Set(read) = flag_of(text::word(line, 1)) else {
-        return world::faulty(world, Fault::Word);
-    };
-    let Flag::Set(append) = flag_of(text::word(line, 2)) else {
-        return world::faulty(world, Fault::Word);
-    };
     let Lent::Lengths(page_size, hold_size) = lent_both(line, world, page, hold) else {
         return world::faulty(world, Fault::Bytes);
     };
@@ -255,4 +260,60 @@ pub(crate) fn restart(
         hold_size,
         out,
     )
+}
+
+// LEFT by its place in `old blank new`; 3 where the line has no such word.
+fn left_number(line: &[u8]) -> usize {
+    if text::last(line, 4) {
+        return 3;
+    }
+    let n = text::position(text::word(line, 5), b"old blank new");
+    if n < 3 {
+        return n;
+    }
+    4
+}
+
+// An operation under way is cut, before the buffers that are lent take the place of its page.
+fn cut(line: &[u8], world: World, volume: &mut [u8], page: &[u8]) -> World {
+    let bench = world.bench;
+    let operation = bench.operation;
+    match power::leaves_by(operation, left_number(line)) {
+        Ending::Bad => world::faulty(world, Fault::Word),
+        Ending::Both(written, wiped) => power::off(
+            world,
+            written,
+            wiped,
+            text::front(volume, world.volume),
+            text::part(page, 0, world.page),
+        ),
+    }
+}
+
+// `restart R A PAGE HOLD LEFT`
+pub(crate) fn restart(
+    line: &[u8],
+    world: World,
+    volume: &mut [u8],
+    page: &mut [u8],
+    hold: &mut [u8],
+    out: &mut [u8],
+) -> World {
+    if !text::same(text::word(line, 0), b"restart") {
+        return world::faulty(world, Fault::Place);
+    }
+    if !text::last(line, 5) {
+        return world::faulty(world, Fault::Words);
+    }
+    let Flag::Set(read) = flag_of(text::word(line, 1)) else {
+        return world::faulty(world, Fault::Word);
+    };
+    let Flag::Set(append) = flag_of(text::word(line, 2)) else {
+        return world::faulty(world, Fault::Word);
+    };
+    let off = cut(line, world, volume, page);
+    if world::is_faulty(off) {
+        return off;
+    }
+    with_buffers(line, off, read, append, volume, page, hold, out)
 }

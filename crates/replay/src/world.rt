@@ -1,10 +1,11 @@
-// What a replay holds between two lines: the log, the flash's operation, the power, and how many bytes of each buffer are in use.
+// What a replay holds between two lines: the bench's world, the line that is due, and how many bytes of each buffer are in use.
 use flash::operation::Operation;
 use log::state::Geometry;
 use log::state::Log;
 use log::state::State;
 use page::id::EntryID;
 use script::parse::Fault;
+use stepping::world as bench;
 
 // The line that is due.
 pub(crate) enum Stage {
@@ -16,11 +17,9 @@ pub(crate) enum Stage {
 
 pub(crate) struct World {
     pub stage: Stage,
-    pub log: Log,
-    pub power: bool,
+    pub bench: bench::World,
     // A state was put in place of the log's: every completion is delivered.
     pub hostile: bool,
-    pub operation: Operation,
     pub volume: usize,
     pub page: usize,
     pub hold: usize,
@@ -28,37 +27,39 @@ pub(crate) struct World {
     pub fault: Fault,
 }
 
-// A log of these sizes with nothing in it.
+// A log of these sizes with nothing in it, and the power off.
 pub(crate) fn blank_log(
     page_size: usize,
     page_count: usize,
     first_page: usize,
     circular: bool,
-) -> Log {
-    Log {
-        geometry: Geometry {
-            page_size,
-            page_count,
-            first_page,
+) -> bench::World {
+    bench::World {
+        power: false,
+        log: Log {
+            geometry: Geometry {
+                page_size,
+                page_count,
+                first_page,
+            },
+            circular,
+            read_client: false,
+            append_client: false,
+            state: State::Idle,
+            oldest_entry_id: EntryID(0),
+            read_entry_id: EntryID(0),
+            append_entry_id: EntryID(0),
+            length: 0,
         },
-        circular,
-        read_client: false,
-        append_client: false,
-        state: State::Idle,
-        oldest_entry_id: EntryID(0),
-        read_entry_id: EntryID(0),
-        append_entry_id: EntryID(0),
-        length: 0,
+        operation: Operation::Nothing,
     }
 }
 
 pub(crate) fn empty() -> World {
     World {
         stage: Stage::Sizes,
-        log: blank_log(0, 0, 0, false),
-        power: false,
+        bench: blank_log(0, 0, 0, false),
         hostile: false,
-        operation: Operation::Nothing,
         volume: 0,
         page: 0,
         hold: 0,
@@ -69,14 +70,11 @@ pub(crate) fn empty() -> World {
 // The world after a line that is wrong.
 pub(crate) fn faulty(world: World, fault: Fault) -> World {
     let stage = world.stage;
-    let log = world.log;
-    let operation = world.operation;
+    let bench = world.bench;
     World {
         stage,
-        log,
-        power: world.power,
+        bench,
         hostile: world.hostile,
-        operation,
         volume: world.volume,
         page: world.page,
         hold: world.hold,
@@ -84,14 +82,27 @@ pub(crate) fn faulty(world: World, fault: Fault) -> World {
     }
 }
 
+pub(crate) fn is_faulty(world: World) -> bool {
+    let fault = world.fault;
+    match fault {
+        Fault::Nothing => false,
+        Fault::Unknown => true,
+        Fault::Place => true,
+        Fault::Words => true,
+        Fault::Number => true,
+        Fault::Bytes => true,
+        Fault::Word => true,
+        Fault::Volume => true,
+        Fault::Long => true,
+    }
+}
+
 // The world after `sizes`: page and hold buffers of so many zeros.
-pub(crate) fn sized(log: Log, buffer: usize) -> World {
+pub(crate) fn sized(bench: bench::World, buffer: usize) -> World {
     World {
         stage: Stage::Volume,
-        log,
-        power: false,
+        bench,
         hostile: false,
-        operation: Operation::Nothing,
         volume: 0,
         page: buffer,
         hold: buffer,
@@ -101,13 +112,11 @@ pub(crate) fn sized(log: Log, buffer: usize) -> World {
 
 // The world after `volume`.
 pub(crate) fn with_volume(world: World, volume: usize) -> World {
-    let log = world.log;
+    let bench = world.bench;
     World {
         stage: Stage::Restart,
-        log,
-        power: false,
+        bench,
         hostile: false,
-        operation: Operation::Nothing,
         volume,
         page: world.page,
         hold: world.hold,
@@ -115,14 +124,12 @@ pub(crate) fn with_volume(world: World, volume: usize) -> World {
     }
 }
 
-// The world after a restart, which gave a log or refused.
-pub(crate) fn restarted(world: World, log: Log, power: bool, page: usize, hold: usize) -> World {
+// The world after a restart with buffers of these lengths.
+pub(crate) fn restarted(world: World, bench: bench::World, page: usize, hold: usize) -> World {
     World {
         stage: Stage::Calls,
-        log,
-        power,
+        bench,
         hostile: false,
-        operation: Operation::Nothing,
         volume: world.volume,
         page,
         hold,
@@ -131,13 +138,11 @@ pub(crate) fn restarted(world: World, log: Log, power: bool, page: usize, hold: 
 }
 
 // The world after a call, or after a state was put in place.
-pub(crate) fn after(world: World, log: Log, operation: Operation, hostile: bool) -> World {
+pub(crate) fn after(world: World, bench: bench::World, hostile: bool) -> World {
     World {
         stage: Stage::Calls,
-        log,
-        power: world.power,
+        bench,
         hostile,
-        operation,
         volume: world.volume,
         page: world.page,
         hold: world.hold,

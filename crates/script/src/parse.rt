@@ -2,9 +2,13 @@
 use crate::text;
 use crate::text::Number;
 use call::outcome::Driver;
+use events::event::EraseCall;
+use events::event::ReadCall;
+use events::event::WriteCall;
 use flash::operation::Erasure;
 use flash::operation::Written;
 use log::state::State;
+use page::id::EntryID;
 
 // What is wrong with a line.
 pub enum Fault {
@@ -19,29 +23,12 @@ pub enum Fault {
     Long,
 }
 
-// The calls that write, read and erase, with their arguments. The client's buffer stands beside them; its length is the second number of append and read.
-pub enum WriteCall {
-    Append(usize, usize, Driver),
-    Sync(Driver),
-    Complete(bool, Written),
-}
-
-pub enum ReadCall {
-    Read(usize, usize),
-    Seek(usize),
-    Deferred,
-}
-
-pub enum EraseCall {
-    Erase(Driver),
-    Complete(bool, Erasure, Driver),
-}
-
-// A line after the first three.
+// A line after the first three. The client's buffer stands beside a call; its length is given with the calls that have one.
 pub enum Line {
-    Write(WriteCall),
-    Read(ReadCall),
+    Write(WriteCall, usize),
+    Read(ReadCall, usize),
     Erase(EraseCall),
+    Cut(Written),
     Get,
     Survey(usize),
     Volume,
@@ -75,7 +62,7 @@ fn append(line: &[u8], client: &mut [u8]) -> Line {
     let Said::Word(word) = driver(text::word(line, 3)) else {
         return Line::Bad(Fault::Word);
     };
-    Line::Write(WriteCall::Append(length, room, word))
+    Line::Write(WriteCall::Append(length, word), room)
 }
 
 fn read(line: &[u8], client: &mut [u8]) -> Line {
@@ -85,14 +72,14 @@ fn read(line: &[u8], client: &mut [u8]) -> Line {
     let Number::Value(room) = text::bytes(text::word(line, 2), client) else {
         return Line::Bad(Fault::Bytes);
     };
-    Line::Read(ReadCall::Read(length, room))
+    Line::Read(ReadCall::Read(length), room)
 }
 
 fn seek(line: &[u8]) -> Line {
     let Number::Value(id) = text::value(text::word(line, 1)) else {
         return Line::Bad(Fault::Number);
     };
-    Line::Read(ReadCall::Seek(id))
+    Line::Read(ReadCall::Seek(EntryID(id)), 0)
 }
 
 fn survey(line: &[u8]) -> Line {
@@ -106,7 +93,7 @@ fn sync(line: &[u8]) -> Line {
     let Said::Word(word) = driver(text::word(line, 1)) else {
         return Line::Bad(Fault::Word);
     };
-    Line::Write(WriteCall::Sync(word))
+    Line::Write(WriteCall::Sync(word), 0)
 }
 
 fn erase(line: &[u8]) -> Line {
@@ -133,10 +120,10 @@ fn write_complete(line: &[u8]) -> Line {
     let left = text::position(text::word(line, 2), b"old blank new");
     let n = both(result, left);
     match n {
-        2 => Line::Write(WriteCall::Complete(true, Written::New)),
-        4 => Line::Write(WriteCall::Complete(false, Written::Old)),
-        5 => Line::Write(WriteCall::Complete(false, Written::Blank)),
-        6 => Line::Write(WriteCall::Complete(false, Written::New)),
+        2 => Line::Write(WriteCall::Complete(true, Written::New), 0),
+        4 => Line::Write(WriteCall::Complete(false, Written::Old), 0),
+        5 => Line::Write(WriteCall::Complete(false, Written::Blank), 0),
+        6 => Line::Write(WriteCall::Complete(false, Written::New), 0),
         _ => Line::Bad(Fault::Word),
     }
 }
@@ -153,6 +140,17 @@ fn erase_complete(line: &[u8]) -> Line {
         1 => Line::Erase(EraseCall::Complete(true, Erasure::Blank, word)),
         4 => Line::Erase(EraseCall::Complete(false, Erasure::Old, word)),
         5 => Line::Erase(EraseCall::Complete(false, Erasure::Blank, word)),
+        _ => Line::Bad(Fault::Word),
+    }
+}
+
+// What an operation under way leaves.
+fn cut(line: &[u8]) -> Line {
+    let n = text::position(text::word(line, 1), b"old blank new");
+    match n {
+        0 => Line::Cut(Written::Old),
+        1 => Line::Cut(Written::Blank),
+        2 => Line::Cut(Written::New),
         _ => Line::Bad(Fault::Word),
     }
 }
@@ -207,7 +205,7 @@ fn within(line: &[u8], words: usize, parsed: Line) -> Line {
 pub fn parse_line(line: &[u8], client: &mut [u8]) -> Line {
     let n = text::position(
         text::word(line, 0),
-        b"append read seek survey sync erase write_complete erase_complete state deferred get volume restart sizes",
+        b"append read seek survey sync erase write_complete erase_complete state deferred get volume cut restart sizes",
     );
     match n {
         0 => within(line, 3, append(line, client)),
@@ -219,11 +217,12 @@ pub fn parse_line(line: &[u8], client: &mut [u8]) -> Line {
         6 => within(line, 2, write_complete(line)),
         7 => within(line, 3, erase_complete(line)),
         8 => within(line, 5, put(line)),
-        9 => within(line, 0, Line::Read(ReadCall::Deferred)),
+        9 => within(line, 0, Line::Read(ReadCall::Deferred, 0)),
         10 => within(line, 0, Line::Get),
         11 => within(line, 0, Line::Volume),
-        12 => Line::Bad(Fault::Place),
+        12 => within(line, 1, cut(line)),
         13 => Line::Bad(Fault::Place),
+        14 => Line::Bad(Fault::Place),
         _ => Line::Bad(Fault::Unknown),
     }
 }

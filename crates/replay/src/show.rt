@@ -1,0 +1,63 @@
+// The trace of a call, and the world after it.
+use crate::world;
+use crate::world::World;
+use call::outcome::Outcome;
+use log::answer::Answer;
+use script::trace;
+use stepping::world::Heard;
+use stepping::world::Step;
+
+// What a delivered call gave.
+fn given(step: Step, answer: Answer) -> Outcome {
+    let bench = step.world;
+    let log = bench.log;
+    let told = step.told;
+    let report = told.report;
+    let request = told.request;
+    Outcome {
+        log,
+        answer,
+        report,
+        request,
+    }
+}
+
+// The outcome, with the buffers as they are after the call.
+fn outcome(out: &mut [u8], start: usize, given: Outcome, page: &[u8], hold: &[u8]) -> usize {
+    let first = trace::outcome(out, start, given);
+    let second = trace::bytes(out, first, page);
+    trace::bytes(out, second, hold)
+}
+
+// A call, delivered or not.
+pub(crate) fn call(name: &[u8], step: Step, page: &[u8], hold: &[u8], out: &mut [u8]) -> usize {
+    let start = trace::put(out, 0, name);
+    let told = step.told;
+    let heard = told.answer;
+    match heard {
+        Heard::Nothing => trace::put(out, start, b" not delivered"),
+        Heard::Answer(answer) => outcome(out, start, given(step, answer), page, hold),
+    }
+}
+
+pub(crate) fn finish(
+    name: &[u8],
+    world: World,
+    step: Step,
+    page: &[u8],
+    hold: &[u8],
+    out: &mut [u8],
+) -> World {
+    let stop = call(name, step, page, hold, out);
+    trace::end(out, stop);
+    let bench = step.world;
+    world::after(world, bench, world.hostile)
+}
+
+// A call that needs the power, which is off.
+pub(crate) fn not_delivered(name: &[u8], world: World, out: &mut [u8]) -> World {
+    let start = trace::put(out, 0, name);
+    let stop = trace::put(out, start, b" not delivered");
+    trace::end(out, stop);
+    world
+}
