@@ -1,7 +1,6 @@
 // A line after the first three runs on the parts of the buffers that are in use.
 use crate::forced;
 use crate::other;
-use crate::power;
 use crate::show;
 use crate::world;
 use crate::world::World;
@@ -16,13 +15,15 @@ fn write(
     name: &[u8],
     world: World,
     call: WriteCall,
+    room: usize,
     volume: &mut [u8],
     page: &mut [u8],
     hold: &mut [u8],
     client: &[u8],
     out: &mut [u8],
 ) -> World {
-    let step = forced::write(world, call, volume, page, hold, client);
+    let buffer = text::part(client, 0, room);
+    let step = forced::write(world, call, volume, page, hold, buffer);
     show::finish(name, world, step, page, hold, out)
 }
 
@@ -60,6 +61,22 @@ fn read<'a>(
     world::after(world, next, world.hostile)
 }
 
+// The same on the part of the client's buffer that is lent.
+fn read_part<'a>(
+    name: &[u8],
+    world: World,
+    call: ReadCall,
+    room: usize,
+    volume: &'a [u8],
+    page: &'a [u8],
+    hold: &[u8],
+    client: &mut [u8],
+    out: &mut [u8],
+) -> World {
+    let buffer = text::front(client, room);
+    read(name, world, call, volume, page, hold, buffer, out)
+}
+
 // A read's trace ends in the client's buffer.
 fn client_bytes(call: ReadCall, client: &[u8], at: usize, out: &mut [u8]) -> usize {
     match call {
@@ -75,11 +92,7 @@ fn needs_power(line: Line) -> bool {
         Line::Write(call, room) => true,
         Line::Read(call, room) => true,
         Line::Erase(call) => true,
-        Line::Get => true,
-        Line::Cut(left) => false,
-        Line::Survey(count) => false,
-        Line::Volume => false,
-        Line::Put(state, oldest, read, append, length) => false,
+        Line::Other(other) => false,
         Line::Bad(fault) => false,
     }
 }
@@ -95,34 +108,14 @@ fn delivered(
     out: &mut [u8],
 ) -> World {
     match line {
-        Line::Write(call, room) => write(
-            name,
-            world,
-            call,
-            volume,
-            page,
-            hold,
-            text::part(client, 0, room),
-            out,
-        ),
-        Line::Read(call, room) => read(
-            name,
-            world,
-            call,
-            volume,
-            page,
-            hold,
-            text::front(client, room),
-            out,
-        ),
-        Line::Erase(call) => erase(name, world, call, volume, page, hold, out),
-        Line::Cut(left) => power::cut(world, left, volume, page, out),
-        Line::Get => other::getters(world, out),
-        Line::Survey(count) => other::survey(world, count, volume, out),
-        Line::Volume => other::show_volume(world, volume, out),
-        Line::Put(state, oldest, read, append, length) => {
-            other::put(world, state, oldest, read, append, length)
+        Line::Write(call, room) => {
+            write(name, world, call, room, volume, page, hold, client, out)
         }
+        Line::Read(call, room) => {
+            read_part(name, world, call, room, volume, page, hold, client, out)
+        }
+        Line::Erase(call) => erase(name, world, call, volume, page, hold, out),
+        Line::Other(other) => other::run(world, other, volume, page, out),
         Line::Bad(fault) => world::faulty(world, fault),
     }
 }

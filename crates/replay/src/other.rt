@@ -1,4 +1,6 @@
 // The lines that are no call of the engine: the getters, a survey, the volume's bytes and another state.
+use crate::power;
+use crate::show;
 use crate::world;
 use crate::world::World;
 use flash::operation::Operation;
@@ -9,6 +11,7 @@ use log::state::State;
 use page::id::EntryID;
 use recovery::survey::Surveyed;
 use script::parse::Fault;
+use script::parse::Other;
 use script::text;
 use script::trace;
 use stepping::world as bench;
@@ -38,7 +41,7 @@ fn survey_into(log: Log, volume: &[u8], ids: &mut [u32], out: &mut [u8]) {
     trace::end(out, stop);
 }
 
-pub(crate) fn survey(world: World, count: usize, volume: &[u8], out: &mut [u8]) -> World {
+fn survey(world: World, count: usize, volume: &[u8], out: &mut [u8]) -> World {
     let mut ids = [4294967295u32; 4096];
     survey_into(
         world.bench.log,
@@ -49,8 +52,11 @@ pub(crate) fn survey(world: World, count: usize, volume: &[u8], out: &mut [u8]) 
     world
 }
 
-pub(crate) fn getters(world: World, out: &mut [u8]) -> World {
+fn getters(world: World, out: &mut [u8]) -> World {
     let bench = world.bench;
+    if !bench.power {
+        return show::not_delivered(b"get", world, out);
+    }
     let log = bench.log;
     let size = match get::get_size(log) {
         Capacity::Bytes(bytes) => bytes,
@@ -63,7 +69,7 @@ pub(crate) fn getters(world: World, out: &mut [u8]) -> World {
     world
 }
 
-pub(crate) fn show_volume(world: World, volume: &[u8], out: &mut [u8]) -> World {
+fn show_volume(world: World, volume: &[u8], out: &mut [u8]) -> World {
     let start = trace::put(out, 0, b"volume");
     let stop = trace::bytes(out, start, volume);
     trace::end(out, stop);
@@ -71,7 +77,7 @@ pub(crate) fn show_volume(world: World, volume: &[u8], out: &mut [u8]) -> World 
 }
 
 // Another state in place of the log's.
-pub(crate) fn put(
+fn put(
     world: World,
     state: State,
     oldest: usize,
@@ -98,4 +104,22 @@ pub(crate) fn put(
         operation: Operation::Nothing,
     };
     world::after(world, put, true)
+}
+
+pub(crate) fn run(
+    world: World,
+    line: Other,
+    volume: &mut [u8],
+    page: &[u8],
+    out: &mut [u8],
+) -> World {
+    match line {
+        Other::Cut(left) => power::cut(world, left, volume, page, out),
+        Other::Get => getters(world, out),
+        Other::Survey(count) => survey(world, count, volume, out),
+        Other::Volume => show_volume(world, volume, out),
+        Other::Put(state, oldest, read, append, length) => {
+            put(world, state, oldest, read, append, length)
+        }
+    }
 }

@@ -23,16 +23,21 @@ pub enum Fault {
     Long,
 }
 
-// A line after the first three. The client's buffer stands beside a call; its length is given with the calls that have one.
-pub enum Line {
-    Write(WriteCall, usize),
-    Read(ReadCall, usize),
-    Erase(EraseCall),
+// The lines that are no call of the log's engine.
+pub enum Other {
     Cut(Written),
     Get,
     Survey(usize),
     Volume,
     Put(State, usize, usize, usize, usize),
+}
+
+// A line after the first three. The client's buffer stands beside a call; its length is given with the calls that have one.
+pub enum Line {
+    Write(WriteCall, usize),
+    Read(ReadCall, usize),
+    Erase(EraseCall),
+    Other(Other),
     Bad(Fault),
 }
 
@@ -86,7 +91,7 @@ fn survey(line: &[u8]) -> Line {
     let Number::Value(count) = text::limited(text::word(line, 1), 4096) else {
         return Line::Bad(Fault::Number);
     };
-    Line::Survey(count)
+    Line::Other(Other::Survey(count))
 }
 
 fn sync(line: &[u8]) -> Line {
@@ -148,9 +153,9 @@ fn erase_complete(line: &[u8]) -> Line {
 fn cut(line: &[u8]) -> Line {
     let n = text::position(text::word(line, 1), b"old blank new");
     match n {
-        0 => Line::Cut(Written::Old),
-        1 => Line::Cut(Written::Blank),
-        2 => Line::Cut(Written::New),
+        0 => Line::Other(Other::Cut(Written::Old)),
+        1 => Line::Other(Other::Cut(Written::Blank)),
+        2 => Line::Other(Other::Cut(Written::New)),
         _ => Line::Bad(Fault::Word),
     }
 }
@@ -190,7 +195,7 @@ fn put(line: &[u8]) -> Line {
     let Number::Value(kept) = text::value(text::word(line, 5)) else {
         return Line::Bad(Fault::Number);
     };
-    Line::Put(state, o, r, a, kept)
+    Line::Other(Other::Put(state, o, r, a, kept))
 }
 
 // A line with no more than so many words after its name.
@@ -218,8 +223,8 @@ pub fn parse_line(line: &[u8], client: &mut [u8]) -> Line {
         7 => within(line, 3, erase_complete(line)),
         8 => within(line, 5, put(line)),
         9 => within(line, 0, Line::Read(ReadCall::Deferred, 0)),
-        10 => within(line, 0, Line::Get),
-        11 => within(line, 0, Line::Volume),
+        10 => within(line, 0, Line::Other(Other::Get)),
+        11 => within(line, 0, Line::Other(Other::Volume)),
         12 => within(line, 1, cut(line)),
         13 => Line::Bad(Fault::Place),
         14 => Line::Bad(Fault::Place),
