@@ -92,7 +92,7 @@ def check_domain(failures):
     wants("seek 28", True)
     long_entry = page[:56] + "01000000"
     state.R, state.A, state.page = 28, 41, long_entry
-    state.volume[:32] = bytes.fromhex(long_entry)
+    state.volume = bytes.fromhex(long_entry) + state.volume[32:]
     wants("read 32 -", False)
     state.R, state.A = CEILING - 4, CEILING
     wants("append 1 00 ok", False)
