@@ -24,8 +24,9 @@ CUTS = [
     *[f"cut in neither {left}" for left in LEFT["write"]], "cut with the power off",
     "restart in neither", "restart with the power off",
 ]
-# What is held to the page book: restarts, entries read after them, ends of reading; and restarts where a page is missing between two others.
-BOOK = ["restarts", "entries", "ends", "restarts with a page missing"]
+# Of the lists that the page book speaks of: their calls; restarts, entries read after them and ends of reading that were held to it; restarts where
+# a page is missing between two others.
+BOOK = ["calls", "restarts", "entries", "ends", "restarts with a page missing"]
 
 
 def report_name(report):
@@ -42,7 +43,7 @@ class Counts:
         self.gets = 0
         self.undelivered = Counter()  # by call
         self.cuts = Counter()  # cuts, and restarts but the first, by where they fall and what they leave
-        self.book = Counter()  # what was held to the page book
+        self.book = Counter()  # of the lists that the page book speaks of
         self.written = 0
         self.laps = 0
 
@@ -66,7 +67,8 @@ class Counts:
             if step.report != "-":
                 self.reports[report_name(step.report)] += 1
             now = step.A // length
-            self.laps += max(0, now - lap) if lap is not None else 0
+            if step.name != "restart":
+                self.laps += max(0, now - lap)
             lap = now
 
     def take_other(self, line, text):
@@ -98,7 +100,7 @@ class Counts:
 
     def missing_cuts(self):
         """The same of lists with cuts."""
-        missing = [name for name in CUTS if not self.cuts[name]] + [f"{name} held to the book" for name in BOOK if not self.book[name]]
+        missing = [name for name in CUTS if not self.cuts[name]] + [f"{name} of the book" for name in BOOK if not self.book[name]]
         return missing + ["a lap"] * (not self.laps)
 
     def __str__(self):
@@ -116,7 +118,7 @@ class Counts:
             f"pages written: {self.written}",
             f"laps: {self.laps}",
             "cuts and restarts: " + (listed((name, self.cuts[name]) for name in CUTS if self.cuts[name]) or "none"),
-            "held to the book: " + (listed((name, self.book[name]) for name in BOOK if self.book[name]) or "nothing"),
+            "the page book: " + (listed((name, self.book[name]) for name in BOOK if self.book[name]) or "nothing"),
         ])
 
 

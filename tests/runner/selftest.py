@@ -6,7 +6,7 @@ from collections import Counter
 
 from .book import Book, Page, disagreement, done
 from .compare import Difference, against_book, drop_lines, plainer
-from .counts import CUTS, Counts
+from .counts import BOOK, CUTS, Counts
 from .domain import CEILING, Tracker, admits_restart
 from .kept import Kept, unmet
 from .sides import Program
@@ -196,7 +196,7 @@ def check_cut_counts(failures):
     counts.take(lines, trace, "fresh")
     found = dict(counts.cuts), counts.undelivered.total(), counts.gets, counts.written
     check(failures, f"cuts counted as {found}", found == ({"cut in write blank": 1, "restart with the power off": 1, "restart in write new": 1}, 1, 0, 1))
-    check(failures, "cuts that are missing", len(counts.missing_cuts()) == len(CUTS) - 3 + 5)
+    check(failures, "cuts that are missing", len(counts.missing_cuts()) == len(CUTS) - 3 + len(BOOK) + 1)
 
 
 def check_witness(failures):
