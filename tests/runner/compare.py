@@ -1,13 +1,15 @@
-"""A script on both sides, and the shortest one that still shows a difference."""
+"""A script on both sides, or against the page book, and the shortest one that still shows a difference."""
 
-from collections import namedtuple
+from collections import Counter, namedtuple
 
-from .domain import Tracker, admits_restart
+from .book import disagreement
+from .domain import Tracker, admits_restart, volume_bytes
 from .sides import Stopped
 from .trace import first_difference, parse
 
 # A script on which the sides differ: the line of the script (counted from 0), what each side wrote there, and how the program ended if not well.
-Difference = namedtuple("Difference", "lines at oracle other ended")
+# With `book`, the other side is the page book.
+Difference = namedtuple("Difference", "lines at oracle other ended book", defaults=[False])
 
 
 def compare(program, lines, trace):
@@ -19,6 +21,15 @@ def compare(program, lines, trace):
     if at is None:
         at = len(trace)
     return Difference(lines, at + 2, text_at(trace, at), text_at(other, at), ended)
+
+
+def against_book(lines, trace, met):
+    """Holds the oracle's trace to the page book, where that speaks of the script. None if they agree; `met` counts what was compared."""
+    found = disagreement(lines, trace, met)
+    if found is None:
+        return None
+    at, says = found
+    return Difference(lines, at + 2, trace[at], says, None, True)
 
 
 def text_at(trace, at):
@@ -51,20 +62,15 @@ def nearest(ids, wanted):
     return min(ids, key=lambda id: abs(id - wanted))
 
 
-def volume_bytes(line, length):
-    words = line.split(" ")
-    return bytes([int(words[2])]) * length if words[1] == "all" else bytes.fromhex(words[1])
-
-
 def shrink(oracle, program, difference):
-    """The shortest script found, within the domain, by dropping lines and then by plainer ones, while a difference remains."""
+    """The shortest script found, within the domain, by dropping lines and then by plainer ones, while a difference of the same kind remains."""
 
     def attempt(lines):
         try:
             script = within_domain(oracle, lines)
         except Stopped:
             return None
-        found = script and compare(program, *script)
+        found = script and (against_book(*script, Counter()) if difference.book else compare(program, *script))
         # Of a program that was stopped or broke down, the last lines of the trace may be missing: its place isn't known.
         return found and (found if found.ended else found._replace(lines=found.lines[:found.at + 1]))
 
@@ -114,7 +120,8 @@ def plainer(line, page_size):
     if words[0] == "volume" and len(words) == 2:
         return ["volume all 255", "volume all 0"] + [f"volume {text}" for text in with_a_blank_page(words[1], 2 * page_size)]
     if words[0] == "restart":
-        return [f"restart {words[1]} {words[2]} = ="]
+        plain = f"restart {words[1]} {words[2]} = ="
+        return [plain] + [f"{plain} {left}" for left in words[5:]]
     if words[0] in ("append", "read") and words[2] != "-":
         ones = "01" * min(int(words[1]), len(words[2]) // 2) or "-"
         return [" ".join([words[0], words[1], ones] + words[3:])]

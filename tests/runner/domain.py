@@ -4,12 +4,25 @@ What the log did is taken from the oracle's trace. The volume's bytes are looked
 leaves the volume, and whether the entry that a read would meet ends within its page.
 """
 
+from .flash import Ended, Flash, after, left_at_restart
+
 CEILING = 1879048192
 LENGTH_MOST = 2**32 - 5
 
 
 def word_at(data, at):
     return int.from_bytes(data[at:at + 4], "little")
+
+
+def volume_bytes(line, length):
+    """What a script's volume line says."""
+    words = line.split(" ")
+    return bytes([int(words[2])]) * length if words[1] == "all" else bytes.fromhex(words[1])
+
+
+def has_header(volume, page_size):
+    """Whether a slot has a page header that is valid, or would be below the ceiling."""
+    return any(word_at(volume, start) % len(volume) == start for start in range(0, len(volume), page_size))
 
 
 def admits_restart(volume, page_size):
@@ -39,10 +52,9 @@ class Tracker:
 
     def __init__(self, page_size, count, first, volume):
         self.page_size = page_size
-        self.first = first
-        self.volume = bytearray(volume)
+        self.volume = bytes(volume)
         assert len(self.volume) == page_size * count
-        self.under_way = None  # or (write or erase, its slot)
+        self.flash = Flash(first)
         self.deferred = False  # a deferred call is due
         self.erasing = False  # from an erase's request to its report; where the driver refused, with nothing under way
         self.handed_out = {}  # the IDs since the last restart or finished erase, as keys, in their order
@@ -52,9 +64,13 @@ class Tracker:
     def copy(self):
         other = Tracker.__new__(Tracker)
         other.__dict__.update(self.__dict__)
-        other.volume = bytearray(self.volume)
+        other.flash = self.flash.copy()
         other.handed_out = dict(self.handed_out)
         return other
+
+    @property
+    def under_way(self):
+        return self.flash.under_way
 
     def idle(self):
         return not (self.under_way or self.deferred or self.erasing)
@@ -64,10 +80,21 @@ class Tracker:
         return self.erasing and not self.under_way
 
     def allows(self, line):
-        """Whether a line of a script may come now."""
+        """Whether a line of a script may come now. With the power off any may: nothing but a restart is delivered."""
+        if line.startswith("restart"):
+            return self.allows_restart(left_at_restart(line))
         words = line.split(" ", 2)
         allowed = getattr(self, "allows_" + words[0], None)
-        return allowed is None or allowed(words[1:])
+        return self.flash.off or allowed is None or allowed(words[1:])
+
+    def allows_restart(self, left):
+        if not self.flash.may_leave(left):
+            return False
+        volume = self.volume_after(Ended(*self.under_way, left)) if self.under_way else self.volume
+        return admits_restart(volume, self.page_size)
+
+    def allows_cut(self, words):
+        return self.flash.may_leave(words[0])
 
     def allows_append(self, words):
         length = int(words[0])
@@ -95,11 +122,11 @@ class Tracker:
         return self.deferred or self.idle()
 
     def allows_write_complete(self, words):
-        return self.under_way is not None and self.under_way[0] == "write"
+        return self.under_way is not None and self.under_way.kind == "write"
 
     def allows_erase_complete(self, words):
         """Where the driver refused, the completion is not delivered to either side."""
-        return self.stuck() or (self.under_way is not None and self.under_way[0] == "erase")
+        return self.stuck() or (self.under_way is not None and self.under_way.kind == "erase")
 
     def byte(self, position):
         """The byte at a position of the log: the page buffer has the page of the last byte appended."""
@@ -131,20 +158,17 @@ class Tracker:
         return refused or at % self.page_size + 4 + length <= self.page_size
 
     def update(self, line, step):
-        """Takes in a call and its trace (None: it was not delivered)."""
+        """Takes in a line and its trace (None: no call was delivered)."""
+        ended = self.flash.take(line, step)
+        if ended:
+            self.volume = self.volume_after(ended)
+        name = line.split(" ", 1)[0]
+        if name in ("cut", "restart"):
+            self.deferred, self.erasing = False, False
         if step is None:
             return
-        words = line.split(" ")
-        name = words[0]
-        if name == "restart":
-            self.under_way, self.deferred, self.erasing = None, False, False
-        if name in ("write_complete", "erase_complete"):
-            self.leave(words[2])
-        if step.request != "-":
-            kind, page = step.request.split(" ")
-            self.erasing = self.erasing or kind == "erase"
-            if words[-1] == "ok":
-                self.under_way = kind, int(page) - self.first
+        if step.request.startswith("erase"):
+            self.erasing = True
         if name in ("read", "seek") and step.answer == 0:
             self.deferred = True
         report = step.report.split(" ", 1)[0]
@@ -157,12 +181,6 @@ class Tracker:
             self.handed_out = {}
         self.handed_out.update({step.O: None, step.R: None, step.A: None})
 
-    def leave(self, left):
-        """The operation under way ends; the page buffer hasn't changed since a write began."""
-        slot = self.under_way[1]
-        self.under_way = None
-        start, end = slot * self.page_size, (slot + 1) * self.page_size
-        if left == "blank":
-            self.volume[start:end] = b"\xff" * self.page_size
-        elif left == "new":
-            self.volume[start:end] = bytes.fromhex(self.page)
+    def volume_after(self, ended):
+        """The page buffer hasn't changed since a write began."""
+        return after(self.volume, self.page_size, bytes.fromhex(self.page), ended)

@@ -84,7 +84,7 @@ class Writer:
 
     def completion(self):
         failed = self.rng.random() < self.failures
-        if self.state.under_way[0] == "write":
+        if self.state.under_way.kind == "write":
             return "write_complete fail " + self.rng.choice(["old", "blank", "new"]) if failed else "write_complete ok new"
         how = "fail " + self.rng.choice(["old", "blank"]) if failed else "ok blank"
         return f"erase_complete {how} {self.word()}"

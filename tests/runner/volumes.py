@@ -1,6 +1,6 @@
-"""Volumes to restart on, from a seed: fresh, all zero, partly filled, wrapped, high (IDs near the ceiling), damaged within the domain."""
+"""Volumes to restart on, from a seed: fresh, all zero, partly filled, wrapped, high (IDs near the ceiling), damaged within the domain; and headless: without a valid page header."""
 
-from .domain import CEILING, admits_restart
+from .domain import CEILING, admits_restart, has_header
 
 KINDS = ["fresh", "zero", "filled", "wrapped", "high", "damaged"]
 WEIGHTS = [22, 4, 18, 20, 8, 28]
@@ -13,6 +13,16 @@ def any_volume(rng, page_size, count):
         volume = MAKERS[kind](rng, page_size, count)
         if admits_restart(volume, page_size):
             return kind, bytes(volume)
+
+
+def any_headless(rng, page_size, count):
+    """A kind, and a volume of it without a valid page header."""
+    if rng.random() < 0.5:
+        return "fresh", fresh(rng, page_size, count)
+    while True:
+        volume = b"".join(rng.choice(HEADLESS)(rng, page_size, count, slot) for slot in range(count))
+        if not has_header(volume, page_size):
+            return "headless", volume
 
 
 def fresh(rng, page_size, count):
@@ -124,5 +134,25 @@ def spoil_end(rng, volume, page_size, slot):
     volume[slot * page_size + 4:(slot + 1) * page_size] = page_end
 
 
+def blank_slot(rng, page_size, count, slot):
+    return b"\xff" * page_size
+
+
+def zero_slot(rng, page_size, count, slot):
+    """A valid page 0 in slot 0."""
+    return bytes(page_size)
+
+
+def noise_slot(rng, page_size, count, slot):
+    return rng.randbytes(page_size)
+
+
+def misplaced_slot(rng, page_size, count, slot):
+    """A page that another slot, or none, would hold."""
+    wrong = rng.choice([rng.randint(0, 4 * count) * page_size, slot * page_size + rng.choice([1, 4, page_size // 2]), CEILING])
+    return page(rng, page_size, wrong)
+
+
+HEADLESS = [blank_slot, zero_slot, noise_slot, misplaced_slot]
 DAMAGES = [spoil_header, spoil_length, spoil_length, spoil_byte, spoil_tail, spoil_copy, spoil_end]
 MAKERS = {"fresh": fresh, "zero": zero, "filled": filled, "wrapped": wrapped, "high": high, "damaged": damaged}

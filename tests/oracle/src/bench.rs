@@ -4,7 +4,7 @@ use crate::flash::{Clients, Driver, Page, Request, number};
 use crate::lent::Lent;
 use crate::log::Log;
 use crate::memory::Volume;
-use crate::script::{Bad, Call, Fill, Left, VOLUME_MOST, Word, bad};
+use crate::script::{Bad, Call, Fill, Left, Restart, VOLUME_MOST, Word, bad};
 use kernel::deferred_call::{self, DeferredCallClient};
 use kernel::hil::flash::{Client, Error};
 use kernel::hil::log::{LogRead, LogWrite};
@@ -92,14 +92,15 @@ impl Bench {
         }
     }
 
-    pub fn restart(
-        &mut self,
-        out: &mut Vec<u8>,
-        read: bool,
-        append: bool,
-        page: Option<Vec<u8>>,
-        hold: Option<Vec<u8>>,
-    ) -> Result<(), Bad> {
+    /// A new log over the volume, after what an operation under way leaves there.
+    pub fn restart(&mut self, out: &mut Vec<u8>, restart: Restart) -> Result<(), Bad> {
+        let Restart {
+            read,
+            append,
+            page,
+            hold,
+            left,
+        } = restart;
         let fits = |buffer: &Option<Vec<u8>>| {
             buffer
                 .as_ref()
@@ -111,6 +112,7 @@ impl Bench {
                 self.sizes.page_size
             ));
         }
+        self.end_operation(left)?;
         let page = self.lent.bytes(page.unwrap_or_else(|| bytes_of(self.page)));
         self.page = page;
         let page = self.lent.page(page);
@@ -132,6 +134,14 @@ impl Bench {
         }))
         .ok();
         self.trace(out, "restart", self.log.as_ref().map(|_| 0));
+        Ok(())
+    }
+
+    /// The power goes: nothing but a restart is delivered from here on.
+    pub fn cut(&mut self, out: &mut Vec<u8>, left: Left) -> Result<(), Bad> {
+        self.end_operation(Some(left))?;
+        self.forget();
+        put(out, format_args!("cut\n"));
         Ok(())
     }
 
@@ -244,6 +254,21 @@ impl Bench {
             self.under_way = UnderWay::Nothing;
             self.leave(slot, left, &[]);
         }
+    }
+
+    /// Ends the operation under way, if there is one, without a completion.
+    fn end_operation(&mut self, left: Option<Left>) -> Result<(), Bad> {
+        match (
+            std::mem::replace(&mut self.under_way, UnderWay::Nothing),
+            left,
+        ) {
+            (UnderWay::Nothing, _) => (),
+            (_, None) => return bad("an operation is under way, so this line says what it leaves"),
+            (UnderWay::Write(slot, page), Some(left)) => self.leave(slot, left, page.0),
+            (UnderWay::Erase(_), Some(Left::New)) => return bad("an erase doesn't leave 'new'"),
+            (UnderWay::Erase(slot), Some(left)) => self.leave(slot, left, &[]),
+        }
+        Ok(())
     }
 
     fn leave(&self, slot: usize, left: Left, new: &[u8]) {

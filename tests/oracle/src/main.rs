@@ -70,21 +70,14 @@ impl Oracle {
                 let volume = sizes.fill(fill)?;
                 Stage::Filled(Bench::new(sizes, &volume, self.driver, self.clients))
             }
-            (
-                Stage::Filled(mut bench),
-                Line::Restart {
-                    read,
-                    append,
-                    page,
-                    hold,
-                },
-            ) => {
-                bench.restart(out, read, append, page, hold)?;
+            (Stage::Filled(mut bench) | Stage::Running(mut bench), Line::Restart(restart)) => {
+                bench.restart(out, restart)?;
                 Stage::Running(bench)
             }
             (Stage::Running(mut bench), line) => {
                 match line {
                     Line::Call(call) => bench.call(out, call),
+                    Line::Cut(left) => bench.cut(out, left)?,
                     Line::Get => bench.get(out),
                     Line::Volume => bench.show_volume(out),
                     _ => return bad("this line is out of its place"),

@@ -34,16 +34,21 @@ pub enum Line {
         circular: bool,
     },
     Fill(Fill),
-    /// No bytes for a buffer: it stays as it is.
-    Restart {
-        read: bool,
-        append: bool,
-        page: Option<Vec<u8>>,
-        hold: Option<Vec<u8>>,
-    },
+    Restart(Restart),
+    /// What the operation under way leaves, if there is one.
+    Cut(Left),
     Call(Call),
     Get,
     Volume,
+}
+
+/// No bytes for a buffer: it stays as it is. What the operation under way leaves may be missing where there is none.
+pub struct Restart {
+    pub read: bool,
+    pub append: bool,
+    pub page: Option<Vec<u8>>,
+    pub hold: Option<Vec<u8>>,
+    pub left: Option<Left>,
 }
 
 pub enum Call {
@@ -187,6 +192,16 @@ fn good(word: &str) -> Result<bool, Bad> {
     }
 }
 
+/// What a cut leaves; whether the operation can leave it is known only where there is one.
+fn left_by_cut(word: &str) -> Result<Left, Bad> {
+    match word {
+        "old" => Ok(Left::Old),
+        "blank" => Ok(Left::Blank),
+        "new" => Ok(Left::New),
+        _ => bad(format!("'{word}' is not old, blank or new")),
+    }
+}
+
 /// What a write leaves: the new page if it ends well.
 fn left_by_write(good: bool, word: &str) -> Result<Left, Bad> {
     match (word, good) {
@@ -204,6 +219,22 @@ fn left_by_erase(good: bool, word: &str) -> Result<Left, Bad> {
         ("old", false) => Ok(Left::Old),
         _ => bad(format!("such an erase doesn't leave '{word}'")),
     }
+}
+
+fn restart(
+    read: &str,
+    append: &str,
+    page: &str,
+    hold: &str,
+    left: Option<&str>,
+) -> Result<Restart, Bad> {
+    Ok(Restart {
+        read: flag(read)?,
+        append: flag(append)?,
+        page: kept_or_buffer(page)?,
+        hold: kept_or_buffer(hold)?,
+        left: left.map(left_by_cut).transpose()?,
+    })
 }
 
 pub fn parse(line: &str) -> Result<Line, Bad> {
@@ -228,13 +259,18 @@ pub fn parse(line: &str) -> Result<Line, Bad> {
         }
         ["volume", word] => return Ok(Line::Fill(Fill::Bytes(bytes(word, VOLUME_MOST)?))),
         ["restart", read, append, page, hold] => {
-            return Ok(Line::Restart {
-                read: flag(read)?,
-                append: flag(append)?,
-                page: kept_or_buffer(page)?,
-                hold: kept_or_buffer(hold)?,
-            });
+            return Ok(Line::Restart(restart(read, append, page, hold, None)?));
         }
+        ["restart", read, append, page, hold, left] => {
+            return Ok(Line::Restart(restart(
+                read,
+                append,
+                page,
+                hold,
+                Some(left),
+            )?));
+        }
+        ["cut", left] => return Ok(Line::Cut(left_by_cut(left)?)),
         ["get"] => return Ok(Line::Get),
         ["volume"] => return Ok(Line::Volume),
         ["append", length, data, word] => Call::Append {
