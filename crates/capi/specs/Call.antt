@@ -1,0 +1,28 @@
+-- What a function on a block does: a block that holds no log is refused by STATE, and nothing changes; else the call runs on the log, and the block takes what it gave.
+use Prim.Native.Nat.{ℕ}
+use mathlib.Core.Path.{_≡_}
+use mathlib.Core.Bool.{Bool}
+use mathlib.Core.List.{List}
+use mathlib.Core.Option.{Option, none, some}
+use lib.ListN.{length}
+use Rattle.log.specs.Answer.{OK, SHAPE, STATE}
+use Rattle.log.specs.Answer as answer
+use Rattle.log.specs.Log.{Geometry, Log}
+use Rattle.recovery.specs.Restart.{Restarted, started, refused, Restarts}
+use Rattle.call.specs.Outcome.{Outcome}
+use Rattle.capi.specs.Block.{blockSize, loaded, saved, sized}
+
+-- `untouched` says that the other buffers are as they were, `does` what the call gives and leaves
+pub data Calls (block block' : List ℕ) (a : ℕ) (untouched : Type 0) (does : Log → Outcome → Type 0) : Type 0 where
+  no-log : loaded block ≡ none → a ≡ STATE → block' ≡ block → untouched → Calls block block' a untouched does
+  runs : {l : Log} {o : Outcome} → loaded block ≡ some l → a ≡ o .answer → block' ≡ saved o block → does l o → Calls block block' a untouched does
+
+-- a restart makes a block of 44 bytes a log's; one of another length is refused by STATE
+abbrev pub restarted : Log → Outcome
+restarted l = record { log = l; answer = OK; report = answer.nothing; request = answer.none }
+
+pub data RestartsBlock (g : Geometry) (circular read-client append-client : Bool) (block block' volume page page' hold : List ℕ) (a : ℕ) : Type 0 where
+  no-block : (length block ≡ blockSize → ⊥) → a ≡ STATE → block' ≡ block → page' ≡ page → RestartsBlock g circular read-client append-client block block' volume page page' hold a
+  shape : length block ≡ blockSize → a ≡ SHAPE → block' ≡ block → Restarts 4 g circular read-client append-client volume page hold (refused SHAPE) page' → RestartsBlock g circular read-client append-client block block' volume page page' hold a
+  starts : {l : Log} → length block ≡ blockSize → a ≡ OK → block' ≡ saved (restarted l) (sized g circular read-client append-client block) → Restarts 4 g circular read-client append-client volume page hold (started l) page'
+      → RestartsBlock g circular read-client append-client block block' volume page page' hold a

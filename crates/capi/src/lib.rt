@@ -1,0 +1,6 @@
+// The log for C and Rust: functions on numbers and byte slices, with the log in a block of bytes that the caller lends.
+pub mod block;
+pub mod calls;
+pub mod get;
+pub mod numbers;
+pub mod restart;
