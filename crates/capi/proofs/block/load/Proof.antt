@@ -1,53 +1,84 @@
+-- `capi::block::load` meets its contract.
+use mathlib.Core.Path.{_≡_}
+use mathlib.Core.Bool.{true, false}
+use lib.ListN.{length, getD}
+use lib.Dec.{eqb, ltb}
+use borrow.Author.Tests.{eq-eqb, ne-eqb, lt-ltb, le-ltb}
+use Rattle.capi.specs.Block.{loaded}
 use borrow.Author.Needs.{needs}
 use Rattle.capi.proofs.block.load.Statement.{statement}
 use Rattle.capi.proofs.block.load.Tie as tie
-use Rattle.capi.proofs.block.load.Reads as reads
-use Rattle.capi.proofs.block.load.Lts as lts
-use Rattle.capi.proofs.block.log_at.Reads as log-at-reads
 
--- src/block.rt:86:9
 returns : tie.Need-returns
-returns c = ?
+unfolding loaded
+returns c =
+    let block = c .before .before .args .block .now in
+    let other : eqb (length block) 44 ≡ false = ne-eqb _ _ (c .if1 .taken) in
+    rw other
 
--- src/block.rt:88:12
 shared-slice-read-if2 : tie.Need-shared-slice-read-if2
 shared-slice-read-if2 c = search needs
 
--- src/block.rt:89:9
 returns-2 : tie.Need-returns-2
-returns-2 c = ?
+unfolding loaded
+returns-2 c =
+    let block = c .before .before .before .before .args .block .now in
+    let long : eqb (length block) 44 ≡ true = eq-eqb _ _ (c .before .before .if1 .left) in
+    let circular : ltb 1 (getD block 12 0) ≡ true = lt-ltb _ _ (c .if2 .taken) in
+    rw (long, circular)
 
--- src/block.rt:91:12
 shared-slice-read-if3 : tie.Need-shared-slice-read-if3
 shared-slice-read-if3 c = search needs
 
--- src/block.rt:92:9
 returns-3 : tie.Need-returns-3
-returns-3 c = ?
+unfolding loaded
+returns-3 c =
+    let block = c .before .before .before .before .before .before .args .block .now in
+    let long : eqb (length block) 44 ≡ true = eq-eqb _ _ (c .before .before .before .before .if1 .left) in
+    let circular : ltb 1 (getD block 12 0) ≡ false = le-ltb _ _ (c .before .before .if2 .left) in
+    let reads : ltb 1 (getD block 13 0) ≡ true = lt-ltb _ _ (c .if3 .taken) in
+    rw (long, circular, reads)
 
--- src/block.rt:94:12
 shared-slice-read-if4 : tie.Need-shared-slice-read-if4
 shared-slice-read-if4 c = search needs
 
--- src/block.rt:95:9
 returns-4 : tie.Need-returns-4
-returns-4 c = ?
+unfolding loaded
+returns-4 c =
+    let block = c .before .before .before .before .before .before .before .before .args .block .now in
+    let long : eqb (length block) 44 ≡ true = eq-eqb _ _ (c .before .before .before .before .before .before .if1 .left) in
+    let circular : ltb 1 (getD block 12 0) ≡ false = le-ltb _ _ (c .before .before .before .before .if2 .left) in
+    let reads : ltb 1 (getD block 13 0) ≡ false = le-ltb _ _ (c .before .before .if3 .left) in
+    let appends : ltb 1 (getD block 14 0) ≡ true = lt-ltb _ _ (c .if4 .taken) in
+    rw (long, circular, reads, appends)
 
--- src/block.rt:97:12
 shared-slice-read-if5 : tie.Need-shared-slice-read-if5
 shared-slice-read-if5 c = search needs
 
--- src/block.rt:98:9
 returns-5 : tie.Need-returns-5
-returns-5 c = ?
+unfolding loaded
+returns-5 c =
+    let block = c .before .before .before .before .before .before .before .before .before .before .args .block .now in
+    let long : eqb (length block) 44 ≡ true = eq-eqb _ _ (c .before .before .before .before .before .before .before .before .if1 .left) in
+    let circular : ltb 1 (getD block 12 0) ≡ false = le-ltb _ _ (c .before .before .before .before .before .before .if2 .left) in
+    let reads : ltb 1 (getD block 13 0) ≡ false = le-ltb _ _ (c .before .before .before .before .if3 .left) in
+    let appends : ltb 1 (getD block 14 0) ≡ false = le-ltb _ _ (c .before .before .if4 .left) in
+    let state : ltb 5 (getD block 15 0) ≡ true = lt-ltb _ _ (c .if5 .taken) in
+    rw (long, circular, reads, appends, state)
 
--- src/block.rt:100:17
 log-at-requires : tie.Need-log-at-requires
 log-at-requires c κs = search needs
 
--- src/block.rt:82:1
 returns-6 : tie.Need-returns-6
-returns-6 c = ?
+unfolding loaded
+returns-6 c =
+    let block = c .before .before .before .before .before .before .before .before .before .before .before .args .block .now in
+    let long : eqb (length block) 44 ≡ true = eq-eqb _ _ (c .before .before .before .before .before .before .before .before .before .if1 .left) in
+    let circular : ltb 1 (getD block 12 0) ≡ false = le-ltb _ _ (c .before .before .before .before .before .before .before .if2 .left) in
+    let reads : ltb 1 (getD block 13 0) ≡ false = le-ltb _ _ (c .before .before .before .before .before .if3 .left) in
+    let appends : ltb 1 (getD block 14 0) ≡ false = le-ltb _ _ (c .before .before .before .if4 .left) in
+    let state : ltb 5 (getD block 15 0) ≡ false = le-ltb _ _ (c .before .if5 .left) in
+    rw (long, circular, reads, appends, state, c .log-at .ensures)
 
 pub load-spec : {M : Type 1} → statement M
 load-spec =

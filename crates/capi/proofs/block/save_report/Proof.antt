@@ -1,54 +1,51 @@
+-- `capi::block::save_report` meets its contract.
+use Rattle.log.specs.Answer.{reportOf}
+use Rattle.capi.proofs.Blocks.{puts-report}
 use borrow.Author.Needs.{needs}
 use Rattle.capi.proofs.block.save_report.Statement.{statement}
 use Rattle.capi.proofs.block.save_report.Tie as tie
-use Rattle.capi.proofs.block.save_report.Reads as reads
-use Rattle.capi.proofs.block.save_report.Lts as lts
-use Rattle.capi.proofs.block.put_byte.Reads as put-byte-reads
-use Rattle.capi.proofs.block.put_word.Reads as put-word-reads
-use Rattle.capi.proofs.numbers.report_kind.Reads as report-kind-reads
-use Rattle.capi.proofs.numbers.report_length.Reads as report-length-reads
-use Rattle.capi.proofs.numbers.report_lost.Reads as report-lost-reads
-use Rattle.capi.proofs.numbers.report_result.Reads as report-result-reads
 
--- src/block.rt:119:25
 report-kind-requires : tie.Need-report-kind-requires
 report-kind-requires c κs = search needs
 
--- src/block.rt:119:5
 put-byte-requires : tie.Need-put-byte-requires
 put-byte-requires c κs = search needs
 
--- src/block.rt:120:25
 report-lost-requires : tie.Need-report-lost-requires
 report-lost-requires c κs = search needs
 
--- src/block.rt:120:5
 put-byte-requires-2 : tie.Need-put-byte-requires-2
 put-byte-requires-2 c κs = search needs
 
--- src/block.rt:121:25
 report-result-requires : tie.Need-report-result-requires
 report-result-requires c κs = search needs
 
--- src/block.rt:121:5
 put-byte-requires-3 : tie.Need-put-byte-requires-3
 put-byte-requires-3 c κs = search needs
 
--- src/block.rt:122:25
 report-length-requires : tie.Need-report-length-requires
 report-length-requires c κs = search needs
 
--- src/block.rt:122:5
 put-word-requires : tie.Need-put-word-requires
 put-word-requires c κs = search needs
 
--- src/block.rt:115:1
 same-length : tie.Need-same-length
 same-length c = search needs
 
--- src/block.rt:115:1
 returns : tie.Need-returns
-returns c = ?
+returns c =
+    let a = c .before .before .before .before .before .before .before .before .before .before .before .before .before .before .before .before .before .before .before .before .before .args in
+    puts-report
+    (reportOf (a .report))
+    (a .block .now)
+    (c .before .before .before .before .before .before .before .before .before .before .before .before .before .before .before .before .before .before .report-kind .ensures)
+    (c .before .before .before .before .before .before .before .before .before .before .before .before .before .report-lost .ensures)
+    (c .before .before .before .before .before .before .before .before .report-result .ensures)
+    (c .before .before .before .report-length .ensures)
+    (c .before .before .before .before .before .before .before .before .before .before .before .before .before .before .before .before .before .put-byte .ensures)
+    (c .before .before .before .before .before .before .before .before .before .before .before .before .put-byte2 .ensures)
+    (c .before .before .before .before .before .before .before .put-byte3 .ensures)
+    (c .before .before .put-word .ensures)
 
 pub save-report-spec : {M : Type 1} → statement M
 save-report-spec =

@@ -1,0 +1,81 @@
+-- Laws of a block: bytes put at their places, and what is loaded from it.
+use Prim.Native.Nat.{ℕ, _+_, _*_, _/_, _%_, _≤_}
+use mathlib.Core.Path.{_≡_, refl, sym, ap, _∙_}
+use mathlib.Core.Bool.{Bool, true, false}
+use mathlib.Core.List.{List, [], _∷_}
+use mathlib.Core.Option.{Option, none, some}
+use native.Mathlib.Omega.{arith}
+use lib.ListN.{length, set}
+use Rattle.page.specs.Pick.{pick}
+use Rattle.page.specs.Word.{wordBytes}
+use Rattle.page.specs.Bytes.{overwrite}
+use Rattle.page.proofs.Overwrites.{stores-overwrite}
+use Rattle.log.specs.Answer.{Report, Request, number}
+use Rattle.log.specs.Log.{Geometry, Log}
+use Rattle.log.specs.declared.answer.Answer as code
+use Rattle.log.specs.declared.answer.Answer.the-variants as a
+use Rattle.call.specs.Outcome.{Outcome}
+use Rattle.capi.specs.Block.{stateNumber, reportKind, reportLost, reportResult, reportLength, requestKind, requestPage, at, withLog, withReport, withRequest, saved, sized}
+
+-- one byte stored
+pub put-byte : (block : List ℕ) (place b : ℕ) → place + 1 ≤ length block → set block place b ≡ overwrite block place (b ∷ [])
+put-byte block place b h = stores-overwrite block place (b ∷ []) h
+
+-- a number's lowest byte and the others, with a multiple of 256 added
+low-byte : (x y k : ℕ) → x ≡ 256 * k + y → y % 256 ≡ x % 256
+low-byte x y k e = omega (arith, e)
+
+high-bytes : (x y k : ℕ) → x ≡ 256 * k + y → x / 256 ≡ k + y / 256
+high-bytes x y k e = omega (arith, e)
+
+-- a word's bytes are those of the number's lowest 32 bits
+pub word-low : (n : ℕ) → wordBytes 4 (n % 4294967296) ≡ wordBytes 4 n
+word-low n =
+    let q : ℕ = n / 4294967296 in
+    let m : ℕ = n % 4294967296 in
+    let e : n ≡ 256 * (16777216 * q) + m = omega arith in
+    let f : n / 256 ≡ 256 * (65536 * q) + m / 256 = omega (arith, high-bytes n m (16777216 * q) e) in
+    let g : n / 256 / 256 ≡ 256 * (256 * q) + m / 256 / 256 = omega (arith, high-bytes (n / 256) (m / 256) (65536 * q) f) in
+    let h = high-bytes (n / 256 / 256) (m / 256 / 256) (256 * q) g in
+    rw (low-byte n m _ e, low-byte (n / 256) (m / 256) _ f, low-byte (n / 256 / 256) (m / 256 / 256) _ g, low-byte (n / 256 / 256 / 256) (m / 256 / 256 / 256) _ h)
+
+-- a log, a report, a request and a log's sizes, byte by byte
+pub puts-log : (l : Log) (b0 : List ℕ) {k : ℕ} {b1 b2 b3 b4 b5 : List ℕ}
+    → k ≡ stateNumber (l .state) → b1 ≡ at 15 (k ∷ []) b0 → b2 ≡ at 16 (wordBytes 4 (l .oldest)) b1 → b3 ≡ at 20 (wordBytes 4 (l .read)) b2
+    → b4 ≡ at 24 (wordBytes 4 (l .append)) b3 → b5 ≡ at 28 (wordBytes 4 (l .kept)) b4 → b5 ≡ withLog l b0
+puts-log l b0 k a b c d e = rw (e, d, c, b, a, k)
+
+pub puts-report : (r : Report) (b0 : List ℕ) {kind lost result n : ℕ} {b1 b2 b3 b4 : List ℕ}
+    → kind ≡ reportKind r → lost ≡ reportLost r → result ≡ reportResult r → n ≡ reportLength r
+    → b1 ≡ at 32 (kind ∷ []) b0 → b2 ≡ at 33 (lost ∷ []) b1 → b3 ≡ at 34 (result ∷ []) b2 → b4 ≡ at 36 (wordBytes 4 n) b3 → b4 ≡ withReport r b0
+puts-report r b0 kind lost result n a b c d = rw (d, c, b, a, kind, lost, result, n)
+
+pub puts-request : (q : Request) (b0 : List ℕ) {kind page : ℕ} {b1 b2 : List ℕ}
+    → kind ≡ requestKind q → page ≡ requestPage q → b1 ≡ at 35 (kind ∷ []) b0 → b2 ≡ at 40 (wordBytes 4 page) b1 → b2 ≡ withRequest q b0
+puts-request q b0 kind page a b = rw (b, a, kind, page)
+
+pub puts-sizes : (g : Geometry) (circular read-client append-client : Bool) (b0 : List ℕ) {f1 f2 f3 : ℕ} {b1 b2 b3 b4 b5 b6 : List ℕ}
+    → b1 ≡ at 0 (wordBytes 4 (g .p)) b0 → b2 ≡ at 4 (wordBytes 4 (g .n)) b1 → b3 ≡ at 8 (wordBytes 4 (g .first)) b2
+    → f1 ≡ pick circular 1 0 → b4 ≡ at 12 (f1 ∷ []) b3 → f2 ≡ pick read-client 1 0 → b5 ≡ at 13 (f2 ∷ []) b4 → f3 ≡ pick append-client 1 0 → b6 ≡ at 14 (f3 ∷ []) b5
+    → b6 ≡ sized g circular read-client append-client b0
+unfolding sized
+puts-sizes g circular read-client append-client b0 a b c f1 d f2 e f3 f = rw (f, e, d, c, b, a, f1, f2, f3)
+
+-- what a call gave
+pub saves : (o : Outcome) (b0 : List ℕ) {b1 b2 b3 : List ℕ} → b1 ≡ withLog (o .log) b0 → b2 ≡ withReport (o .report) b1 → b3 ≡ withRequest (o .request) b2 → b3 ≡ saved o b0
+unfolding saved
+saves o b0 a b c = rw (c, b, a)
+
+-- an answer's number is small
+pub number-small : (x : code.Answer) → number x ≤ 23
+number-small a.OK = omega arith
+number-small a.FAIL = omega arith
+number-small a.BUSY = omega arith
+number-small a.RESERVE = omega arith
+number-small a.INVAL = omega arith
+number-small a.SIZE = omega arith
+number-small a.CANCEL = omega arith
+number-small a.SHAPE = omega arith
+number-small a.STATE = omega arith
+number-small a.STRAY = omega arith
+number-small a.LIMIT = omega arith

@@ -1,0 +1,2 @@
+-- The laws of the block.
+pub mod Blocks
