@@ -5,17 +5,22 @@ use mathlib.Core.Bool.{Bool, true, false}
 use mathlib.Core.List.{List, [], _∷_}
 use mathlib.Core.Option.{Option, none, some}
 use native.Mathlib.Omega.{arith}
+use lib.Dec.{eqb}
+use borrow.Author.Tests.{eqb-true}
 use lib.ListN.{length, set}
 use Rattle.page.specs.Pick.{pick}
 use Rattle.page.specs.Word.{wordBytes}
 use Rattle.page.specs.Bytes.{overwrite}
 use Rattle.page.proofs.Overwrites.{stores-overwrite}
 use Rattle.log.specs.Answer.{Report, Request, number}
-use Rattle.log.specs.Log.{Geometry, Log}
+use Rattle.log.specs.Log.{Geometry, Log, logOf}
 use Rattle.log.specs.declared.answer.Answer as code
 use Rattle.log.specs.declared.answer.Answer.the-variants as a
+use Rattle.log.specs.declared.state.Log as log
 use Rattle.call.specs.Outcome.{Outcome}
-use Rattle.capi.specs.Block.{stateNumber, reportKind, reportLost, reportResult, reportLength, requestKind, requestPage, at, withLog, withReport, withRequest, saved, sized}
+use Rattle.capi.specs.declared.block.Loaded as loads
+use Rattle.capi.specs.declared.block.Loaded.the-variants as v
+use Rattle.capi.specs.Block.{stateNumber, reportKind, reportLost, reportResult, reportLength, requestKind, requestPage, at, withLog, withReport, withRequest, saved, sized, loaded, loadedOf}
 
 -- one byte stored
 pub put-byte : (block : List ℕ) (place b : ℕ) → place + 1 ≤ length block → set block place b ≡ overwrite block place (b ∷ [])
@@ -66,6 +71,9 @@ pub saves : (o : Outcome) (b0 : List ℕ) {b1 b2 b3 : List ℕ} → b1 ≡ withL
 unfolding saved
 saves o b0 a b c = rw (c, b, a)
 
+pub saves-same : {o p : Outcome} {b0 s b1 : List ℕ} → o ≡ p → b0 ≡ s → b1 ≡ saved o b0 → b1 ≡ saved p s
+saves-same e q h = rw (h, e, q)
+
 -- an answer's number is small
 pub number-small : (x : code.Answer) → number x ≤ 23
 number-small a.OK = omega arith
@@ -79,3 +87,19 @@ number-small a.SHAPE = omega arith
 number-small a.STATE = omega arith
 number-small a.STRAY = omega arith
 number-small a.LIMIT = omega arith
+
+-- what a function that has loaded a block knows of it
+pub holds-none : (block : List ℕ) {r : loads.Loaded} → loadedOf r ≡ loaded block → r ≡ v.Bad → loaded block ≡ none
+holds-none block e q = sym e ∙ ap loadedOf q
+
+pub holds : (block : List ℕ) {r : loads.Loaded} {l : log.Log} → loadedOf r ≡ loaded block → r ≡ v.Log l → loaded block ≡ some (logOf l)
+holds block e q = sym e ∙ ap loadedOf q
+
+-- a block that holds a log has 44 bytes
+pub loaded-size : (block : List ℕ) {l : Log} → loaded block ≡ some l → length block ≡ 44
+unfolding loaded
+loaded-size block {l} e = go (eqb (length block) 44) refl
+  where
+    go : (t : Bool) → eqb (length block) 44 ≡ t → length block ≡ 44
+    go true q = eqb-true _ _ q
+    go false q = let n : none ≡ some l = rw q at e in let z : _≡_ {A = ℕ} 0 1 = cc in absurd (omega arith)

@@ -1,46 +1,46 @@
+-- `capi::get::punelovash_get_size` meets its contract.
+use mathlib.Core.Path.{sym, ap, _∙_}
+use Rattle.log.specs.Get.{capacityAnswer}
+use Rattle.capi.specs.Get.{bytesOf}
+use Rattle.capi.proofs.Blocks.{holds-none, holds}
 use borrow.Author.Needs.{needs}
 use Rattle.capi.proofs.get.punelovash_get_size.Statement.{statement}
 use Rattle.capi.proofs.get.punelovash_get_size.Tie as tie
-use Rattle.capi.proofs.get.punelovash_get_size.Reads as reads
-use Rattle.capi.proofs.get.punelovash_get_size.Lts as lts
-use Rattle.capi.proofs.block.load.Reads as load-reads
-use Rattle.log.proofs.get.get_size.Reads as get-size-reads
 
--- src/get.rt:47:11
 load-requires : tie.Need-load-requires
 load-requires c κs = search needs
 
--- src/get.rt:48:24
 enum-told : tie.Need-enum-told
 enum-told c = search needs
 
--- src/get.rt:49:21
 enum-known-log : tie.Need-enum-known-log
 enum-known-log c = search needs
 
--- src/get.rt:49:35
 get-size-requires : tie.Need-get-size-requires
 get-size-requires c κs = search needs
 
--- src/get.rt:50:29
 enum-known-bytes : tie.Need-enum-known-bytes
 enum-known-bytes c = search needs
 
--- src/get.rt:51:32
 enum-told-2 : tie.Need-enum-told-2
 enum-told-2 c = search needs
 
--- src/get.rt:43:1
 returns : tie.Need-returns
-returns c = ?
+returns c =
+    let a = c .before .before .before .before .args in
+    rw (holds-none (a .block .now) (c .before .before .load .ensures) (c .enum-told .given .1))
 
--- src/get.rt:43:1
 returns-2 : tie.Need-returns-2
-returns-2 c = ?
+returns-2 c =
+    let a = c .before .before .before .before .before .before .before .before .before .args in
+    let size = sym (ap capacityAnswer (c .before .bytes .given .1)) ∙ c .before .before .before .get-size .ensures in
+    rw (holds (a .block .now) (c .before .before .before .before .before .before .before .load .ensures) (c .before .before .before .before .before .log .given .1)) (ap bytesOf size)
 
--- src/get.rt:43:1
 returns-3 : tie.Need-returns-3
-returns-3 c = ?
+returns-3 c =
+    let a = c .before .before .before .before .before .before .before .before .args in
+    let size = sym (ap capacityAnswer (c .enum-told2 .given .1)) ∙ c .before .before .get-size .ensures in
+    rw (holds (a .block .now) (c .before .before .before .before .before .before .load .ensures) (c .before .before .before .before .log .given .1)) (ap bytesOf size)
 
 pub punelovash-get-size-spec : {M : Type 1} → statement M
 punelovash-get-size-spec =

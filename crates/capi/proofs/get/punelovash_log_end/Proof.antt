@@ -1,34 +1,30 @@
+-- `capi::get::punelovash_log_end` meets its contract.
+use Rattle.capi.proofs.Blocks.{holds-none, holds}
 use borrow.Author.Needs.{needs}
 use Rattle.capi.proofs.get.punelovash_log_end.Statement.{statement}
 use Rattle.capi.proofs.get.punelovash_log_end.Tie as tie
-use Rattle.capi.proofs.get.punelovash_log_end.Reads as reads
-use Rattle.capi.proofs.get.punelovash_log_end.Lts as lts
-use Rattle.capi.proofs.block.load.Reads as load-reads
-use Rattle.log.proofs.get.log_end.Reads as log-end-reads
 
--- src/get.rt:25:11
 load-requires : tie.Need-load-requires
 load-requires c κs = search needs
 
--- src/get.rt:26:24
 enum-told : tie.Need-enum-told
 enum-told c = search needs
 
--- src/get.rt:27:21
 enum-known-log : tie.Need-enum-known-log
 enum-known-log c = search needs
 
--- src/get.rt:27:29
 log-end-requires : tie.Need-log-end-requires
 log-end-requires c κs = search needs
 
--- src/get.rt:21:1
 returns : tie.Need-returns
-returns c = ?
+returns c =
+    let a = c .before .before .before .before .args in
+    rw (holds-none (a .block .now) (c .before .before .load .ensures) (c .enum-told .given .1))
 
--- src/get.rt:21:1
 returns-2 : tie.Need-returns-2
-returns-2 c = ?
+returns-2 c =
+    let a = c .before .before .before .before .before .before .args in
+    rw (holds (a .block .now) (c .before .before .before .before .load .ensures) (c .before .before .log .given .1)) (c .log-end .ensures)
 
 pub punelovash-log-end-spec : {M : Type 1} → statement M
 punelovash-log-end-spec =

@@ -1,60 +1,62 @@
+-- `capi::restart::punelovash_restart` meets its contract.
+use mathlib.Core.Path.{refl, ap, _∙_}
+use mathlib.Core.Bool.{not}
+use lib.Dec.{eqb}
+use Rattle.log.specs.Log.{Geometry}
+use Rattle.call.specs.Outcome.{Outcome}
+use Rattle.recovery.specs.Restart.{restartAnswer}
+use Rattle.capi.specs.Block.{sized}
+use Rattle.capi.specs.Call.{no-block, shape, starts}
+use Rattle.capi.proofs.Blocks.{saves-same}
 use borrow.Author.Needs.{needs}
 use Rattle.capi.proofs.restart.punelovash_restart.Statement.{statement}
 use Rattle.capi.proofs.restart.punelovash_restart.Tie as tie
-use Rattle.capi.proofs.restart.punelovash_restart.Reads as reads
-use Rattle.capi.proofs.restart.punelovash_restart.Lts as lts
-use Rattle.capi.proofs.block.save.Reads as save-reads
-use Rattle.capi.proofs.block.save_sizes.Reads as save-sizes-reads
-use Rattle.capi.proofs.restart.given.Reads as given-reads
-use Rattle.recovery.proofs.restart.restart.Reads as restart-reads
 
--- src/restart.rt:47:9
 returns : tie.Need-returns
-returns c = ?
+returns c = no-block (c .if1 .taken) refl refl refl
 
--- src/restart.rt:57:11
 restart-requires : tie.Need-restart-requires
 restart-requires c κs = search needs
 
--- src/restart.rt:58:29
 enum-told : tie.Need-enum-told
 enum-told c = search needs
 
--- src/restart.rt:59:24
 enum-known-log : tie.Need-enum-known-log
 enum-known-log c = search needs
 
--- src/restart.rt:60:13
 save-sizes-requires : tie.Need-save-sizes-requires
 save-sizes-requires c κs = search needs
 
--- src/restart.rt:61:25
 given-requires : tie.Need-given-requires
 given-requires c κs = search needs
 
--- src/restart.rt:61:13
 save-requires : tie.Need-save-requires
 save-requires c κs = search needs
 
--- src/restart.rt:31:1
 same-length : tie.Need-same-length
 same-length c = search needs
 
--- src/restart.rt:31:1
 returns-2 : tie.Need-returns-2
-returns-2 c = ?
+returns-2 c = shape (c .before .before .before .before .before .before .if1 .left) refl refl (rw (ap restartAnswer (c .enum-told .given .1)) at (c .before .before .before .before .restart .ensures))
 
--- src/restart.rt:31:1
 same-length-2 : tie.Need-same-length-2
 same-length-2 c = search needs
 
--- src/restart.rt:31:1
 same-length-3 : tie.Need-same-length-3
 same-length-3 c = search needs
 
--- src/restart.rt:31:1
 returns-3 : tie.Need-returns-3
-returns-3 c = ?
+returns-3 c =
+    let a = c .before .before .before .before .before .before .before .before .before .before .before .before .before .before .before .before .before .before .before .before .before .args in
+    let size : Geometry = record { p = a .page-size; n = a .page-count; first = a .first-page } in
+    let block = sized size (not (eqb (a .circular) 0)) (not (eqb (a .read-client) 0)) (not (eqb (a .append-client) 0)) (a .block .now) in
+    let save = c .before .before .save .ensures in
+    let given = c .before .before .before .before .given .ensures in
+    starts
+    (c .before .before .before .before .before .before .before .before .before .before .before .before .before .before .before .before .if1 .left)
+    (save .0 ∙ ap (λ (o : Outcome). o .answer) given)
+    (saves-same {s = block} given (c .before .before .before .before .before .before .before .save-sizes .ensures) (save .1))
+    (rw (ap restartAnswer (c .before .before .before .before .before .before .before .before .before .before .log .given .1)) at (c .before .before .before .before .before .before .before .before .before .before .before .before .before .before .restart .ensures))
 
 pub punelovash-restart-spec : {M : Type 1} → statement M
 punelovash-restart-spec =
