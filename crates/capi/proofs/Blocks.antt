@@ -3,7 +3,7 @@ use Prim.Native.Nat.{ℕ, _+_, _*_, _/_, _%_, _≤_}
 use mathlib.Core.Path.{_≡_, refl, sym, ap, _∙_}
 use mathlib.Core.Bool.{Bool, true, false}
 use mathlib.Core.List.{List, [], _∷_}
-use mathlib.Core.Option.{Option, none, some}
+use mathlib.Core.Option.{Option, none, some, Option·none-ne-some}
 use native.Mathlib.Omega.{arith}
 use lib.Dec.{eqb}
 use borrow.Author.Tests.{eqb-true}
@@ -95,11 +95,16 @@ holds-none block e q = sym e ∙ ap loadedOf q
 pub holds : (block : List ℕ) {r : loads.Loaded} {l : log.Log} → loadedOf r ≡ loaded block → r ≡ v.Log l → loaded block ≡ some (logOf l)
 holds block e q = sym e ∙ ap loadedOf q
 
+-- tests that a log was let through by
+pub passes : (t : Bool) (x : Option Log) {l : Log} → pick t x none ≡ some l → (t ≡ true) × (x ≡ some l)
+passes true x e = (refl, e)
+passes false x {l} e = absurd (Option·none-ne-some l e)
+
+pub refuses-not : (t : Bool) (x : Option Log) {l : Log} → pick t none x ≡ some l → (t ≡ false) × (x ≡ some l)
+refuses-not true x {l} e = absurd (Option·none-ne-some l e)
+refuses-not false x e = (refl, e)
+
 -- a block that holds a log has 44 bytes
 pub loaded-size : (block : List ℕ) {l : Log} → loaded block ≡ some l → length block ≡ 44
 unfolding loaded
-loaded-size block {l} e = go (eqb (length block) 44) refl
-  where
-    go : (t : Bool) → eqb (length block) 44 ≡ t → length block ≡ 44
-    go true q = eqb-true _ _ q
-    go false q = let n : none ≡ some l = rw q at e in let z : _≡_ {A = ℕ} 0 1 = cc in absurd (omega arith)
+loaded-size block e = eqb-true _ _ (passes (eqb (length block) 44) _ e .0)

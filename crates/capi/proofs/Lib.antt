@@ -1,2 +1,3 @@
--- The laws of the block.
+-- The laws of the block, and that what is saved is loaded.
 pub mod Blocks
+pub mod RoundTrip

@@ -3,12 +3,12 @@ use Prim.Native.Nat.{ℕ}
 use mathlib.Core.Path.{_≡_}
 use mathlib.Core.Bool.{Bool}
 use mathlib.Core.List.{List}
-use mathlib.Core.Option.{Option, none, some}
+use mathlib.Core.Option.{none, some}
 use lib.ListN.{length}
 use Rattle.log.specs.Answer.{OK, SHAPE, STATE}
 use Rattle.log.specs.Answer as answer
 use Rattle.log.specs.Log.{Geometry, Log}
-use Rattle.recovery.specs.Restart.{Restarted, started, refused, Restarts}
+use Rattle.recovery.specs.Restart.{started, refused, Restarts}
 use Rattle.call.specs.Outcome.{Outcome}
 use Rattle.capi.specs.Block.{blockSize, loaded, saved, sized}
 

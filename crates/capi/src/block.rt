@@ -1,14 +1,14 @@
 // The block that a caller lends: 44 bytes with the log and what the last call gave.
 ghost use mathlib.Core.Path.{_≡_};
 ghost use mathlib.Core.List.{[], _∷_};
-ghost use Prim.Native.Nat.{_+_, _≤_, _%_, _^_};
+ghost use Prim.Native.Nat.{_+_, _≤_};
 ghost use lib.ListN.{length};
 ghost use Rattle.page.specs.Word.{wordAt, wordBytes};
 ghost use Rattle.page.specs.Bytes.{overwrite};
 ghost use Rattle.log.specs.Answer.{reportOf, requestOf};
 ghost use Rattle.log.specs.Log.{geometryOf, logOf};
 ghost use Rattle.call.specs.Outcome.{outcomeOf};
-ghost use Rattle.capi.specs.Block.{logAt, loadedOf, loaded, withLog, withReport, withRequest, saved, flag, sized};
+ghost use Rattle.capi.specs.Block.{logAt, loadedOf, loaded, withLog, withReport, withRequest, saved, sized};
 use crate::numbers;
 use call::outcome::Outcome;
 use log::answer;

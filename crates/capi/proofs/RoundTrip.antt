@@ -1,0 +1,262 @@
+-- What a call saves in a block is what the next call loads from it.
+use Prim.Native.Nat.{ℕ, _+_, _≤_, _<_, _^_}
+use mathlib.Core.Path.{_≡_, refl, sym, ap, _∙_}
+use mathlib.Core.Bool.{Bool, false}
+use mathlib.Core.List.{List, [], _∷_}
+use mathlib.Core.Option.{some, Option·some-injective}
+use native.Mathlib.Omega.{arith}
+use lib.ListN.{length, take, drop, getD, take-append-drop}
+use lib.Seq.{getD-take, getD-set-same, length-take-le}
+use lib.Dec.{eqb, ltb}
+use borrow.Author.Tests.{eq-eqb, eqb-true, le-ltb}
+use Rattle.page.specs.Word.{le, wordAt, wordBytes}
+use Rattle.page.proofs.Overwrites.{length-overwrite, overwrite-before, window-left}
+use Rattle.page.proofs.Words.{wordAt-written}
+use Rattle.log.specs.Answer.{Report, Request}
+use Rattle.log.specs.Log.{State, Idle, Read, Seek, Append, Sync, Erase, Geometry, Log}
+use Rattle.call.specs.Outcome.{Outcome}
+use Rattle.capi.specs.Block.{stateNumber, stateFrom, logAt, loaded, reportKind, reportLost, reportResult, requestKind, at, withLog, withReport, withRequest, saved}
+use Rattle.capi.proofs.Blocks.{put-byte, refuses-not, passes}
+
+-- bytes put at a place keep the block's size and what is before them
+put-size : (block : List ℕ) (place : ℕ) (b : List ℕ) → place + length b ≤ 44 → length block ≡ 44 → length (at place b block) ≡ 44
+put-size block place b h z = length-overwrite block place b (omega (arith, h, z)) ∙ z
+
+put-front : (n : ℕ) (block : List ℕ) (place : ℕ) (b : List ℕ) → n ≤ place → place ≤ 44 → length block ≡ 44 → take n (at place b block) ≡ take n block
+put-front n block place b h p z = overwrite-before n 0 block place b (omega (arith, h)) (omega (arith, p, z))
+
+-- a word and a byte of a front part
+word-front : (n a : ℕ) (s : List ℕ) → a + 4 ≤ n → n ≤ length s → wordAt 4 (take n s) a ≡ wordAt 4 s a
+unfolding wordAt
+word-front n a s h l =
+    let fits : a + 4 ≤ length (take n s) = omega (arith, h, length-take-le n s l) in
+    ap le (sym (window-left 4 a (take n s) (drop n s) fits) ∙ ap (λ x. take 4 (drop a x)) (take-append-drop n s))
+
+same-word : (n a : ℕ) (s t : List ℕ) → take n s ≡ take n t → a + 4 ≤ n → n ≤ 44 → length s ≡ 44 → length t ≡ 44 → wordAt 4 s a ≡ wordAt 4 t a
+same-word n a s t e h l y z = sym (word-front n a s h (omega (arith, l, y))) ∙ ap (λ x. wordAt 4 x a) e ∙ word-front n a t h (omega (arith, l, z))
+
+same-byte : (n i : ℕ) (s t : List ℕ) → take n s ≡ take n t → i < n → getD s i 0 ≡ getD t i 0
+same-byte n i s t e h = sym (getD-take n s i 0 h) ∙ ap (λ x. getD x i 0) e ∙ getD-take n t i 0 h
+
+-- a word that was put is read, whatever is put after it
+put-word : (block : List ℕ) (place n : ℕ) → n < 2 ^ 32 → place ≤ 44 → length block ≡ 44 → wordAt 4 (at place (wordBytes 4 n) block) place ≡ n
+put-word block place n h p z = wordAt-written 4 n block place h (omega (arith, p, z))
+
+-- a report and a request keep the size, and the bytes below 32
+module _ (r : Report) (block : List ℕ) (z : length block ≡ 44) where
+  abbrev r1 : List ℕ
+  r1 = at 32 (reportKind r ∷ []) block
+
+  abbrev r2 : List ℕ
+  r2 = at 33 (reportLost r ∷ []) r1
+
+  abbrev r3 : List ℕ
+  r3 = at 34 (reportResult r ∷ []) r2
+
+  y1 : length r1 ≡ 44
+  y1 = put-size block 32 _ (omega arith) z
+
+  y2 : length r2 ≡ 44
+  y2 = put-size r1 33 _ (omega arith) y1
+
+  y3 : length r3 ≡ 44
+  y3 = put-size r2 34 _ (omega arith) y2
+
+  report-size : length (withReport r block) ≡ 44
+  report-size = put-size r3 36 _ (omega arith) y3
+
+  report-front : take 32 (withReport r block) ≡ take 32 block
+  report-front =
+      put-front 32 r3 36 _ (omega arith) (omega arith) y3
+      ∙ put-front 32 r2 34 _ (omega arith) (omega arith) y2
+      ∙ put-front 32 r1 33 _ (omega arith) (omega arith) y1
+      ∙ put-front 32 block 32 _ (omega arith) (omega arith) z
+
+module _ (q : Request) (block : List ℕ) (z : length block ≡ 44) where
+  abbrev q1 : List ℕ
+  q1 = at 35 (requestKind q ∷ []) block
+
+  x1 : length q1 ≡ 44
+  x1 = put-size block 35 _ (omega arith) z
+
+  request-size : length (withRequest q block) ≡ 44
+  request-size = put-size q1 40 _ (omega arith) x1
+
+  request-front : take 32 (withRequest q block) ≡ take 32 block
+  request-front = put-front 32 q1 40 _ (omega arith) (omega arith) x1 ∙ put-front 32 block 35 _ (omega arith) (omega arith) z
+
+-- a log's state, IDs and kept length
+module _ (l : Log) (block : List ℕ) (z : length block ≡ 44) where
+  abbrev b1 : List ℕ
+  b1 = at 15 (stateNumber (l .state) ∷ []) block
+
+  abbrev b2 : List ℕ
+  b2 = at 16 (wordBytes 4 (l .oldest)) b1
+
+  abbrev b3 : List ℕ
+  b3 = at 20 (wordBytes 4 (l .read)) b2
+
+  abbrev b4 : List ℕ
+  b4 = at 24 (wordBytes 4 (l .append)) b3
+
+  abbrev b5 : List ℕ
+  b5 = at 28 (wordBytes 4 (l .kept)) b4
+
+  z1 : length b1 ≡ 44
+  z1 = put-size block 15 _ (omega arith) z
+
+  z2 : length b2 ≡ 44
+  z2 = put-size b1 16 (wordBytes 4 (l .oldest)) (omega arith) z1
+
+  z3 : length b3 ≡ 44
+  z3 = put-size b2 20 (wordBytes 4 (l .read)) (omega arith) z2
+
+  z4 : length b4 ≡ 44
+  z4 = put-size b3 24 (wordBytes 4 (l .append)) (omega arith) z3
+
+  log-size : length (withLog l block) ≡ 44
+  log-size = put-size b4 28 (wordBytes 4 (l .kept)) (omega arith) z4
+
+  -- the bytes before each word, after all that is put from there on
+  log-four : (n : ℕ) → n ≤ 28 → take n b5 ≡ take n b4
+  log-four n h = put-front n b4 28 _ h (omega arith) z4
+
+  log-three : (n : ℕ) → n ≤ 24 → take n b5 ≡ take n b3
+  log-three n h = log-four n (omega (arith, h)) ∙ put-front n b3 24 _ h (omega arith) z3
+
+  log-two : (n : ℕ) → n ≤ 20 → take n b5 ≡ take n b2
+  log-two n h = log-three n (omega (arith, h)) ∙ put-front n b2 20 _ h (omega arith) z2
+
+  log-one : (n : ℕ) → n ≤ 16 → take n b5 ≡ take n b1
+  log-one n h = log-two n (omega (arith, h)) ∙ put-front n b1 16 _ h (omega arith) z1
+
+  log-front : take 15 (withLog l block) ≡ take 15 block
+  log-front = log-one 15 (omega arith) ∙ put-front 15 block 15 _ (omega arith) (omega arith) z
+
+  log-state : getD (withLog l block) 15 0 ≡ stateNumber (l .state)
+  log-state =
+      same-byte 16 15 b5 b1 (log-one 16 (omega arith)) (omega arith)
+      ∙ ap (λ x. getD x 15 0) (sym (put-byte block 15 (stateNumber (l .state)) (omega (arith, z))))
+      ∙ getD-set-same block 15 (stateNumber (l .state)) 0 (omega (arith, z))
+
+  log-oldest : l .oldest < 2 ^ 32 → wordAt 4 (withLog l block) 16 ≡ l .oldest
+  log-oldest h = same-word 20 16 b5 b2 (log-two 20 (omega arith)) (omega arith) (omega arith) log-size z2 ∙ put-word b1 16 (l .oldest) h (omega arith) z1
+
+  log-read : l .read < 2 ^ 32 → wordAt 4 (withLog l block) 20 ≡ l .read
+  log-read h = same-word 24 20 b5 b3 (log-three 24 (omega arith)) (omega arith) (omega arith) log-size z3 ∙ put-word b2 20 (l .read) h (omega arith) z2
+
+  log-append : l .append < 2 ^ 32 → wordAt 4 (withLog l block) 24 ≡ l .append
+  log-append h = same-word 28 24 b5 b4 (log-four 28 (omega arith)) (omega arith) (omega arith) log-size z4 ∙ put-word b3 24 (l .append) h (omega arith) z3
+
+  log-kept : l .kept < 2 ^ 32 → wordAt 4 (withLog l block) 28 ≡ l .kept
+  log-kept h = put-word b4 28 (l .kept) h (omega arith) z4
+
+-- a state's number is at most 5, and gives the state
+state-small : (s : State) → stateNumber s ≤ 5
+state-small Idle = omega arith
+state-small Read = omega arith
+state-small Seek = omega arith
+state-small Append = omega arith
+state-small Sync = omega arith
+state-small Erase = omega arith
+
+state-back : (s : State) → stateFrom (stateNumber s) ≡ s
+state-back Idle = refl
+state-back Read = refl
+state-back Seek = refl
+state-back Append = refl
+state-back Sync = refl
+state-back Erase = refl
+
+-- what a block that holds a log passes
+record Held (block : List ℕ) (l : Log) : Type 0 where
+  size : length block ≡ 44
+  circular : ltb 1 (getD block 12 0) ≡ false
+  reads : ltb 1 (getD block 13 0) ≡ false
+  appends : ltb 1 (getD block 14 0) ≡ false
+  log : logAt block ≡ l
+
+held : (block : List ℕ) {l : Log} → loaded block ≡ some l → Held block l
+unfolding loaded
+held block {l} e =
+    let a = passes (eqb (length block) 44) _ e in
+    let b = refuses-not (ltb 1 (getD block 12 0)) _ (a .1) in
+    let c = refuses-not (ltb 1 (getD block 13 0)) _ (b .1) in
+    let d = refuses-not (ltb 1 (getD block 14 0)) _ (c .1) in
+    let f = refuses-not (ltb 5 (getD block 15 0)) _ (d .1) in
+    record { size = eqb-true _ _ (a .0); circular = b .0; reads = c .0; appends = d .0; log = Option·some-injective _ _ (f .1) }
+
+-- the other way
+loads : (block : List ℕ) {l : Log} → Held block l → getD block 15 0 ≤ 5 → loaded block ≡ some l
+unfolding loaded
+loads block h s = rw (eq-eqb (length block) 44 (h .size), h .circular, h .reads, h .appends, le-ltb 5 (getD block 15 0) s) (ap some (h .log))
+
+-- a log by its parts
+log-of : (m : Log) {p n first : ℕ} {circular reads appends : Bool} {state : State} {oldest read append kept : ℕ}
+    → p ≡ m .geometry .p → n ≡ m .geometry .n → first ≡ m .geometry .first → circular ≡ m .circular → reads ≡ m .read-client → appends ≡ m .append-client
+    → state ≡ m .state → oldest ≡ m .oldest → read ≡ m .read → append ≡ m .append → kept ≡ m .kept
+    → record { geometry = record { p = p; n = n; first = first }; circular = circular; read-client = reads; append-client = appends; state = state; oldest = oldest; read = read; append = append; kept = kept } ≡ m
+log-of m p n first circular reads appends state oldest read append kept = rw (p, n, first, circular, reads, appends, state, oldest, read, append, kept)
+
+-- the block after a call
+module _ (o : Outcome) (block : List ℕ) (z : length block ≡ 44) where
+  abbrev middle : List ℕ
+  middle = withLog (o .log) block
+
+  abbrev after : List ℕ
+  after = withRequest (o .request) (withReport (o .report) middle)
+
+  long : length middle ≡ 44
+  long = log-size (o .log) block z
+
+  after-size : length after ≡ 44
+  after-size = request-size (o .request) (withReport (o .report) middle) (report-size (o .report) middle long)
+
+  kept-front : take 32 after ≡ take 32 middle
+  kept-front = request-front (o .request) (withReport (o .report) middle) (report-size (o .report) middle long) ∙ report-front (o .report) middle long
+
+  -- the words that the log put, and its state
+  put : (a : ℕ) → a + 4 ≤ 32 → wordAt 4 after a ≡ wordAt 4 middle a
+  put a i = same-word 32 a after middle kept-front i (omega arith) after-size long
+
+  after-state : getD after 15 0 ≡ stateNumber (o .log .state)
+  after-state = same-byte 32 15 after middle kept-front (omega arith) ∙ log-state (o .log) block z
+
+  -- the words and the flags before them
+  word : (a : ℕ) → a + 4 ≤ 15 → wordAt 4 after a ≡ wordAt 4 block a
+  word a i = put a (omega (arith, i)) ∙ same-word 15 a middle block (log-front (o .log) block z) i (omega arith) long z
+
+  byte : (i : ℕ) → i < 15 → getD after i 0 ≡ getD block i 0
+  byte i j = same-byte 32 i after middle kept-front (omega (arith, j)) ∙ same-byte 15 i middle block (log-front (o .log) block z) j
+
+-- a call changes no size, no mode and no client flag, and its numbers fit a word: the next call loads its log
+pub round-trip : (block : List ℕ) {l : Log} (o : Outcome) → loaded block ≡ some l
+    → o .log .geometry ≡ l .geometry → o .log .circular ≡ l .circular → o .log .read-client ≡ l .read-client → o .log .append-client ≡ l .append-client
+    → o .log .oldest < 2 ^ 32 → o .log .read < 2 ^ 32 → o .log .append < 2 ^ 32 → o .log .kept < 2 ^ 32
+    → loaded (saved o block) ≡ some (o .log)
+unfolding saved
+round-trip block {l} o e g circular reads appends oldest read append kept =
+    let h = held block e in
+    let z = h .size in
+    loads
+    (after o block z)
+    (record {
+      size = after-size o block z;
+      circular = ap (ltb 1) (byte o block z 12 (omega arith)) ∙ h .circular;
+      reads = ap (ltb 1) (byte o block z 13 (omega arith)) ∙ h .reads;
+      appends = ap (ltb 1) (byte o block z 14 (omega arith)) ∙ h .appends;
+      log = log-of
+          (o .log)
+          (word o block z 0 (omega arith) ∙ ap (λ (k : Log). k .geometry .p) (h .log) ∙ sym (ap (λ (k : Geometry). k .p) g))
+          (word o block z 4 (omega arith) ∙ ap (λ (k : Log). k .geometry .n) (h .log) ∙ sym (ap (λ (k : Geometry). k .n) g))
+          (word o block z 8 (omega arith) ∙ ap (λ (k : Log). k .geometry .first) (h .log) ∙ sym (ap (λ (k : Geometry). k .first) g))
+          (ap (λ (k : ℕ). eqb k 1) (byte o block z 12 (omega arith)) ∙ ap (λ (k : Log). k .circular) (h .log) ∙ sym circular)
+          (ap (λ (k : ℕ). eqb k 1) (byte o block z 13 (omega arith)) ∙ ap (λ (k : Log). k .read-client) (h .log) ∙ sym reads)
+          (ap (λ (k : ℕ). eqb k 1) (byte o block z 14 (omega arith)) ∙ ap (λ (k : Log). k .append-client) (h .log) ∙ sym appends)
+          (ap stateFrom (after-state o block z) ∙ state-back (o .log .state))
+          (put o block z 16 (omega arith) ∙ log-oldest (o .log) block z oldest)
+          (put o block z 20 (omega arith) ∙ log-read (o .log) block z read)
+          (put o block z 24 (omega arith) ∙ log-append (o .log) block z append)
+          (put o block z 28 (omega arith) ∙ log-kept (o .log) block z kept);
+    })
+    (rw (after-state o block z) (state-small (o .log .state)))
