@@ -1,9 +1,5 @@
 // What a replay holds between two lines: the bench's world, the line that is due, and how many bytes of each buffer are in use.
-use flash::operation::Operation;
 use log::state::Geometry;
-use log::state::Log;
-use log::state::State;
-use page::id::EntryID;
 use script::parse::Fault;
 use stepping::world as bench;
 
@@ -27,32 +23,19 @@ pub(crate) struct World {
     pub fault: Fault,
 }
 
-// A log of these sizes with nothing in it, and the power off.
+// A log of these sizes, and the power off.
 pub(crate) fn blank_log(
     page_size: usize,
     page_count: usize,
     first_page: usize,
     circular: bool,
 ) -> bench::World {
-    bench::World {
-        power: false,
-        log: Log {
-            geometry: Geometry {
-                page_size,
-                page_count,
-                first_page,
-            },
-            circular,
-            read_client: false,
-            append_client: false,
-            state: State::Idle,
-            oldest_entry_id: EntryID(0),
-            read_entry_id: EntryID(0),
-            append_entry_id: EntryID(0),
-            length: 0,
-        },
-        operation: Operation::Nothing,
-    }
+    let geometry = Geometry {
+        page_size,
+        page_count,
+        first_page,
+    };
+    bench::begin(geometry, circular)
 }
 
 pub(crate) fn empty() -> World {

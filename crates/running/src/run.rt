@@ -1,8 +1,6 @@
 // A list runs, the log restarts once more, and what it holds is read.
 ghost use mathlib.Core.Path.{_≡_};
 ghost use mathlib.Core.Bool.{true};
-ghost use mathlib.Core.List.{List};
-ghost use Prim.Native.Nat.{ℕ};
 ghost use lib.ListN.{length};
 ghost use Rattle.log.specs.Log.{geometryOf};
 ghost use Rattle.log.specs.Check.{shapeFits};
@@ -10,20 +8,18 @@ ghost use Rattle.flash.specs.Flash.{leftOf, erasedOf};
 ghost use Rattle.bench.specs.World as bench;
 ghost use Rattle.stepping.specs.Step.{worldOf};
 ghost use Rattle.running.specs.Encoded.{eventSize, complete, eventAt};
-ghost use Rattle.running.specs.Run.{noLog, listed, after, ranOf, Runs};
+ghost use Rattle.running.specs.Run.{listed, after, ranOf, Runs};
 use crate::decode;
 use crate::decode::HEAD_SIZE;
 use crate::entries;
 use flash::operation::Erasure;
-use flash::operation::Operation;
 use flash::operation::Written;
 use log::check;
 use log::state::Geometry;
-use log::state::Log;
-use log::state::State;
 use page::id::EntryID;
 use stepping::power;
 use stepping::step;
+use stepping::world;
 use stepping::world::World;
 
 // What a further restart found: O and A, how many entries were read and how many bytes they take up with their lengths.
@@ -37,27 +33,6 @@ pub struct Found {
 pub enum Ran {
     Found(Found),
     Shape,
-}
-
-// Where a list begins: the power is off.
-fn begin(geometry: Geometry, circular: bool) -> World
-    ensures { λ r. ⌜ ((page hold volume : List ℕ) → worldOf r page hold volume ≡ bench.before (noLog (geometryOf geometry) circular) volume page hold) ⌝ }
-{
-    World {
-        power: false,
-        log: Log {
-            geometry,
-            circular,
-            read_client: false,
-            append_client: false,
-            state: State::Idle,
-            oldest_entry_id: EntryID(0),
-            read_entry_id: EntryID(0),
-            append_entry_id: EntryID(0),
-            length: 0,
-        },
-        operation: Operation::Nothing,
-    }
 }
 
 // The event at the front of a list runs.
@@ -105,7 +80,7 @@ fn run_list(
     requires { ⌜ shapeFits 4 (geometryOf geometry) (length (now volume)) (length (now page)) (length (now hold)) ≡ true ⌝ }
     ensures { λ r. ⌜ worldOf r (now (page .exit)) (now (hold .exit)) (now (volume .exit)) ≡ after 4 (geometryOf geometry) circular (listed (length (now (buffer .entry))) (now (list .entry))) (now (volume .entry)) (now (page .entry)) (now (hold .entry)) .world ⌝ }
 {
-    let mut world = begin(geometry, circular);
+    let mut world = world::begin(geometry, circular);
     let mut at: usize = 0;
     while at < list.len() {
         let rest = &list[at..];

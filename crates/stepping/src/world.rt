@@ -1,10 +1,12 @@
 // The bench's world, and what is told of an event. The volume, the page buffer and the hold buffer are lent beside it.
 ghost use mathlib.Core.Path.{_≡_};
+ghost use mathlib.Core.Bool.{false};
 ghost use mathlib.Core.List.{List};
 ghost use mathlib.Core.Option.{none};
 ghost use Prim.Native.Nat.{ℕ};
 ghost use Rattle.log.specs.Answer as answers;
-ghost use Rattle.log.specs.Log.{logOf};
+ghost use Rattle.log.specs.Log.{geometryOf, logOf};
+ghost use Rattle.recovery.specs.Restart.{atRest};
 ghost use Rattle.call.specs.Outcome.{outcomeOf, wordOf};
 ghost use Rattle.flash.specs.Flash.{nothing};
 ghost use Rattle.bench.specs.World as bench;
@@ -18,7 +20,10 @@ use flash::operation::Written;
 use log::answer::Answer;
 use log::answer::Report;
 use log::answer::Request;
+use log::state::Geometry;
 use log::state::Log;
+use log::state::State;
+use page::id::EntryID;
 
 pub struct World {
     pub power: bool,
@@ -51,6 +56,27 @@ pub struct Told {
 pub struct Step {
     pub world: World,
     pub told: Told,
+}
+
+// Where a list begins: the power is off, and the log is any; this one has sizes and mode.
+pub fn begin(geometry: Geometry, circular: bool) -> World
+    ensures { λ r. ⌜ ((page hold volume : List ℕ) → worldOf r page hold volume ≡ bench.before (atRest (geometryOf geometry) circular false false 0 0) volume page hold) ⌝ }
+{
+    World {
+        power: false,
+        log: Log {
+            geometry,
+            circular,
+            read_client: false,
+            append_client: false,
+            state: State::Idle,
+            oldest_entry_id: EntryID(0),
+            read_entry_id: EntryID(0),
+            append_entry_id: EntryID(0),
+            length: 0,
+        },
+        operation: Operation::Nothing,
+    }
 }
 
 // A call was delivered: an operation starts where it has a request and the driver's word is OK.
