@@ -5,10 +5,12 @@ use mathlib.Core.Bool.{Bool}
 use mathlib.Core.List.{List}
 use mathlib.Core.Option.{none, some}
 use lib.ListN.{length}
-use Rattle.log.specs.Answer.{OK, SHAPE, STATE}
+use Rattle.page.specs.Answered.{gives, refuses}
+use Rattle.log.specs.Answer.{OK, SIZE, SHAPE, STATE}
 use Rattle.log.specs.Answer as answer
 use Rattle.log.specs.Log.{Geometry, Log}
 use Rattle.recovery.specs.Restart.{started, refused, Restarts}
+use Rattle.recovery.specs.Survey.{Surveys}
 use Rattle.call.specs.Outcome.{Outcome}
 use Rattle.capi.specs.Block.{blockSize, loaded, saved, sized}
 
@@ -26,3 +28,9 @@ pub data RestartsBlock (g : Geometry) (circular read-client append-client : Bool
   shape : length block ≡ blockSize → a ≡ SHAPE → block' ≡ block → Restarts 4 g circular read-client append-client volume page hold (refused SHAPE) page' → RestartsBlock g circular read-client append-client block block' volume page page' hold a
   starts : {l : Log} → length block ≡ blockSize → a ≡ OK → block' ≡ saved (restarted l) (sized g circular read-client append-client block) → Restarts 4 g circular read-client append-client volume page hold (started l) page'
       → RestartsBlock g circular read-client append-client block block' volume page page' hold a
+
+-- the survey: the answer's number, and the count where it is OK; else the count stays
+pub data SurveysVolume (g : Geometry) (volume ids ids' : List ℕ) (count count' a : ℕ) : Type 0 where
+  counts : a ≡ OK → Surveys 4 g volume ids (gives count') ids' → SurveysVolume g volume ids ids' count count' a
+  too-many : a ≡ SIZE → count' ≡ count → Surveys 4 g volume ids (refuses SIZE) ids' → SurveysVolume g volume ids ids' count count' a
+  misfits : a ≡ SHAPE → count' ≡ count → Surveys 4 g volume ids (refuses SHAPE) ids' → SurveysVolume g volume ids ids' count count' a

@@ -4,3 +4,4 @@ pub mod calls;
 pub mod get;
 pub mod numbers;
 pub mod restart;
+pub mod survey;
