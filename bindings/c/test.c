@@ -650,14 +650,26 @@ static void failures(void)
     check_report(&b, PUNELOVASH_ERASE_DONE, 0, 0, PUNELOVASH_BUSY);
     check_request(&b, PUNELOVASH_ERASE, 1);
     check_ids(&b, 36, 4, 96);
-    reads_back(&b, &all, 1);
     SAME(erase(&b, PUNELOVASH_WORD_OK), PUNELOVASH_OK, "erase again");
+    ends(&b, BLANK);
+    SAME(erase_complete(&b, 1, PUNELOVASH_WORD_BUSY), PUNELOVASH_OK, "erase_complete with BUSY");
+    check_report(&b, PUNELOVASH_ERASE_DONE, 0, 0, PUNELOVASH_BUSY);
+    check_ids(&b, 68, 36, 96);
+    reads_back(&b, &all, 2);
+    drop(&b);
+    all.count = 0;
+    fresh(&b, 32, 4, 0, 1);
+    for (int k = 0; k < 3; k++) append_entry(&b, &all, 24);
+    SAME(erase(&b, PUNELOVASH_WORD_OK), PUNELOVASH_OK, "erase");
     ends(&b, BLANK);
     SAME(erase_complete(&b, 1, PUNELOVASH_WORD_FAIL), PUNELOVASH_OK, "erase_complete with FAIL");
     no_report(&b);
+    check_request(&b, PUNELOVASH_ERASE, 1);
     SAME(punelovash_state(b.block), PUNELOVASH_IN_ERASE, "state");
     SAME(restart(&b), PUNELOVASH_OK, "restart leads out of Erase");
-    check_ids(&b, 4, 4, 4); /* page 2 never was on flash */
+    check_ids(&b, 36, 36, 68); /* page 1 is on flash, page 2 never was */
+    all.count = 2;
+    reads_back(&b, &all, 1);
     drop(&b);
 }
 
@@ -758,14 +770,16 @@ static void driver_words(void)
 
 /* a refusal leaves the log and every lent byte as before, and neither report nor request */
 #define REFUSED(b, call, number) do { \
-        uint8_t log_[32], page_[4096], hold_[4096]; \
+        uint8_t log_[32], page_[4096], hold_[4096], buffer_[4096]; \
         memcpy(log_, (b)->block, sizeof log_); \
         memcpy(page_, (b)->page, (b)->p); \
         memcpy(hold_, (b)->hold, (b)->p); \
+        memcpy(buffer_, (b)->buffer, (b)->p); \
         SAME(call, number, "answer"); \
         CHECK(memcmp(log_, (b)->block, sizeof log_) == 0, "the log changed"); \
         CHECK(memcmp(page_, (b)->page, (b)->p) == 0, "the page buffer changed"); \
         CHECK(memcmp(hold_, (b)->hold, (b)->p) == 0, "the hold buffer changed"); \
+        CHECK(memcmp(buffer_, (b)->buffer, (b)->p) == 0, "the read buffer changed"); \
         no_report(b); \
         check_request(b, PUNELOVASH_NO_REQUEST, 0); \
     } while (0)

@@ -1,0 +1,23 @@
+//! Links libcapi.a, from the folder PUNELOVASH_LIB_DIR or the repository's target/staticlib.
+
+use std::path::PathBuf;
+
+fn main() {
+    println!("cargo:rerun-if-env-changed=PUNELOVASH_LIB_DIR");
+    println!("cargo:rerun-if-changed=build.rs");
+    let here = PathBuf::from(std::env::var_os("CARGO_MANIFEST_DIR").unwrap_or_default());
+    let folder = match std::env::var_os("PUNELOVASH_LIB_DIR") {
+        Some(folder) => PathBuf::from(folder),
+        None => here.join("../../target/staticlib"),
+    };
+    let archive = folder.join("libcapi.a");
+    if !archive.is_file() {
+        println!(
+            "cargo:warning={} is missing: build it, or name its folder in PUNELOVASH_LIB_DIR",
+            archive.display()
+        );
+    }
+    println!("cargo:rerun-if-changed={}", archive.display());
+    println!("cargo:rustc-link-search=native={}", folder.display());
+    println!("cargo:rustc-link-lib=static=capi");
+}
