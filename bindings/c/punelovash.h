@@ -29,7 +29,7 @@
  *     2 BUSY     as before    the state isn't Idle; or the driver's word
  *     5 RESERVE  as before    the client isn't set
  *     6 INVAL    as before    a length or a seek's ID that isn't allowed
- *     7 SIZE     as before    the entry is too long for a page, or for a read's length
+ *     7 SIZE     as before    the entry is too long for a page or for a read's length; more page IDs than a survey has room for
  *     8 CANCEL   R = O        a read with R > A
  *     20 SHAPE   as before    sizes that aren't allowed, or a volume, page or hold of another length
  *     21 STATE   as before    the block holds no log: not 44 bytes, a flag above 1, a state above 5, or IDs that are no log's
@@ -282,6 +282,18 @@ uint32_t punelovash_deferred_call(uint8_t *block, size_t block_length,
                                   const uint8_t *volume, size_t volume_length,
                                   const uint8_t *page, size_t page_length,
                                   const uint8_t *hold, size_t hold_length);
+
+/*
+ * Writes the ID of each page that the volume holds, the page's number times P, once to `ids`, which has room for ids_length
+ * of them, and their count to `count`. The order is free; N elements are always enough. It needs no log and no block; sizes
+ * are those of punelovash_restart.
+ * Answers OK, SHAPE (sizes, or a volume of another length) or SIZE (more IDs than elements). On OK the elements after the
+ * count stay; refused, all of `ids` and the count stay. `ids` and `count` are aligned as their types are.
+ */
+uint32_t punelovash_survey(uint32_t page_size, uint32_t page_count, uint32_t first_page,
+                           const uint8_t *volume, size_t volume_length,
+                           uint32_t *ids, size_t ids_length,
+                           size_t *count);
 
 /* O, the ID of the oldest entry. Each of these four is 0 for a block that holds no log; none changes anything. */
 size_t punelovash_log_start(const uint8_t *block, size_t block_length);

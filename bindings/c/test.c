@@ -971,6 +971,52 @@ static void refusals(void)
     drop(&b);
 }
 
+/* the IDs of the pages on flash are `from` and each P more, up to `to` */
+static void check_survey(struct bench *b, size_t from, size_t to)
+{
+    enum { ROOM = 16 };
+    uint32_t ids[ROOM];
+    size_t count = 77, pages = (to - from) / b->p;
+    for (size_t room = 0; room < ROOM; room++) {
+        uint32_t answer;
+        for (size_t k = 0; k < ROOM; k++) ids[k] = 0xABABABABu;
+        count = 77;
+        answer = punelovash_survey(b->p, b->n, b->first, b->volume, volume_length(b), ids, room, &count);
+        check_bench(b);
+        SAME(answer, room < pages ? PUNELOVASH_SIZE : PUNELOVASH_OK, "survey");
+        SAME(count, room < pages ? 77 : pages, "the survey's count");
+        for (size_t k = room < pages ? 0 : pages; k < ROOM; k++) SAME(ids[k], 0xABABABABu, "an element after the count");
+        for (size_t id = from; id < to && room >= pages; id += b->p) {
+            int times = 0;
+            for (size_t k = 0; k < pages; k++) times += ids[k] == id;
+            SAME(times, 1, "how often an ID was written");
+        }
+    }
+    count = 77;
+    SAME(punelovash_survey(b->p, b->n, b->first, b->volume, volume_length(b) - 1, ids, ROOM, &count), PUNELOVASH_SHAPE, "survey");
+    SAME(punelovash_survey(b->p + 1, b->n, b->first, b->volume, volume_length(b), ids, ROOM, &count), PUNELOVASH_SHAPE, "survey");
+    SAME(punelovash_survey(b->p, 0, b->first, b->volume, 0, ids, ROOM, &count), PUNELOVASH_SHAPE, "survey");
+    SAME(punelovash_survey(b->p, b->n, 16777216, b->volume, volume_length(b), ids, ROOM, &count), PUNELOVASH_SHAPE, "survey");
+    SAME(count, 77, "the count after SHAPE");
+}
+
+static void survey(void)
+{
+    static struct entries all;
+    struct bench b;
+    part = "survey";
+    all.count = 0;
+    fresh(&b, 32, 4, 0, 1);
+    check_survey(&b, 0, 0);
+    append_entry(&b, &all, 24);
+    check_survey(&b, 0, 0);
+    append_entry(&b, &all, 24);
+    check_survey(&b, 0, 32);
+    for (int k = 0; k < 20; k++) append_entry(&b, &all, 24); /* pages 17 to 20 on flash, 21 in the buffer */
+    check_survey(&b, 17 * 32, 21 * 32);
+    drop(&b);
+}
+
 static void plain(void)
 {
     static struct entries all;
@@ -1020,6 +1066,7 @@ int main(void)
     failures();
     driver_words();
     refusals();
+    survey();
     plain();
     printf("C: %lu calls, %lu checks\n", calls, checks);
     return 0;

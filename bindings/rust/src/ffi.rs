@@ -119,6 +119,17 @@ extern "C" {
         hold_length: usize,
     ) -> u32;
 
+    pub fn punelovash_survey(
+        page_size: u32,
+        page_count: u32,
+        first_page: u32,
+        volume: *const u8,
+        volume_length: usize,
+        ids: *mut u32,
+        ids_length: usize,
+        count: *mut usize,
+    ) -> u32;
+
     pub fn punelovash_log_start(block: *const u8, block_length: usize) -> usize;
     pub fn punelovash_log_end(block: *const u8, block_length: usize) -> usize;
     pub fn punelovash_next_read_entry_id(block: *const u8, block_length: usize) -> usize;

@@ -46,7 +46,9 @@ mod block;
 mod ffi;
 mod log;
 mod numbers;
+mod survey;
 
 pub use block::BLOCK_SIZE;
 pub use log::{Geometry, Log, LogRead, LogWrite, Mode};
 pub use numbers::{Answer, DriverWord, EntryID, Outcome, PageNumber, Report, Request, State};
+pub use survey::survey;

@@ -4,8 +4,8 @@ mod bench;
 
 use bench::{Flash, Left};
 use punelovash::{
-    Answer, DriverWord, EntryID, Geometry, Log, LogRead, LogWrite, Mode, Outcome, PageNumber,
-    Report, Request, State, BLOCK_SIZE,
+    survey, Answer, DriverWord, EntryID, Geometry, Log, LogRead, LogWrite, Mode, Outcome,
+    PageNumber, Report, Request, State, BLOCK_SIZE,
 };
 
 const SIZES: Geometry = Geometry {
@@ -255,6 +255,25 @@ fn the_ceiling() {
     assert_eq!(log.log_end(), EntryID(1_879_048_192));
     let got = log.append(&flash.volume, &ONES, 1, OK);
     assert_eq!(got, nothing(Answer::Limit));
+}
+
+#[test]
+fn the_survey() {
+    let (mut log, mut flash) = fresh(CIRCULAR);
+    assert_eq!(survey(SIZES, &flash.volume, &mut []), Ok(0));
+    for k in 0..22 {
+        append(&mut log, &mut flash, &[k; 24]);
+    }
+    let mut ids = [7; 5];
+    assert_eq!(survey(SIZES, &flash.volume, &mut ids), Ok(4));
+    ids[..4].sort();
+    assert_eq!(ids, [17 * 32, 18 * 32, 19 * 32, 20 * 32, 7]);
+    let mut few = [7; 3];
+    let refused = survey(SIZES, &flash.volume, &mut few);
+    assert_eq!(refused, Err(Answer::Size));
+    let refused = survey(SIZES, &flash.volume[1..], &mut ids);
+    assert_eq!(refused, Err(Answer::Shape));
+    assert_eq!(few, [7; 3]);
 }
 
 #[test]

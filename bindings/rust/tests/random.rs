@@ -6,8 +6,8 @@ mod bench;
 use bench::model::Model;
 use bench::{Flash, Left, Random};
 use punelovash::{
-    Answer, DriverWord, EntryID, Geometry, Log, LogRead, LogWrite, Mode, Outcome, Report, Request,
-    State,
+    survey, Answer, DriverWord, EntryID, Geometry, Log, LogRead, LogWrite, Mode, Outcome, Report,
+    Request, State,
 };
 use std::collections::BTreeMap;
 
@@ -299,6 +299,25 @@ impl Run {
         let got = self.log.restart(self.sizes, mode, &self.flash.volume);
         self.agree("restart", got, want);
         assert_eq!(self.log.hold(), hold, "the hold buffer after a restart");
+        self.survey();
+    }
+
+    /// The survey gives the IDs of the pages on flash.
+    fn survey(&mut self) {
+        let mut want: Vec<u32> = self.model.page_ids();
+        let mut ids = [u32::MAX; 9];
+        let count = survey(self.sizes, &self.flash.volume, &mut ids).expect("room for each ID");
+        assert!(ids[count..].iter().all(|id| *id == u32::MAX));
+        ids[..count].sort();
+        want.sort();
+        assert_eq!(ids[..count], want, "the pages on flash");
+        if let Some(short) = count.checked_sub(1) {
+            let before = ids;
+            let refused = survey(self.sizes, &self.flash.volume, &mut ids[..short]);
+            assert_eq!(refused, Err(Answer::Size));
+            assert_eq!(ids, before);
+        }
+        self.meet(format!("survey of {count}"));
     }
 
     /// After a restart, reading to the first FAIL gives the page book's entries.
