@@ -32,7 +32,7 @@
  *     7 SIZE     as before    the entry is too long for a page or for a read's length; more page IDs than a survey has room for
  *     8 CANCEL   R = O        a read with R > A
  *     20 SHAPE   as before    sizes that aren't allowed, or a volume, page or hold of another length
- *     21 STATE   as before    the block holds no log: not 44 bytes, a flag above 1, a state above 5, or IDs that are no log's
+ *     21 STATE   as before    the block holds no log: not 44 bytes, a flag above 1, a state above 5, or IDs or a length that are no log's
  *     22 STRAY   as before    a completion or a deferred call that isn't due
  *     23 LIMIT   as before    an append that needs a page at C
  *
@@ -223,7 +223,8 @@ uint32_t punelovash_seek(uint8_t *block, size_t block_length,
  * Writes the page buffer to flash, so that what was appended outlasts a power cut.
  * Answers, in this order: SHAPE, STATE; OK with no report and no request where A mod P = 4 (the page has no entry), even when
  * busy; BUSY, RESERVE (no append client); then OK, or the driver's word. The page buffer's tail is padded and a write of it is
- * requested; O and R may move as by append. State Sync; punelovash_write_complete reports sync_done.
+ * requested, also where nothing was appended since the last sync; O and R may move as by append. State Sync;
+ * punelovash_write_complete reports sync_done.
  * The driver's refusal is the answer. It leaves these moves and the padding; state Idle, no report.
  */
 uint32_t punelovash_sync(uint8_t *block, size_t block_length,

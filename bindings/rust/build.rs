@@ -1,4 +1,5 @@
-//! Links libcapi.a, from the folder PUNELOVASH_LIB_DIR or the repository's target/staticlib.
+//! Links libcapi.a, from the folder that PUNELOVASH_LIB_DIR names (from here, if it isn't absolute) or the repository's
+//! target/staticlib.
 
 use std::path::PathBuf;
 
@@ -6,10 +7,8 @@ fn main() {
     println!("cargo:rerun-if-env-changed=PUNELOVASH_LIB_DIR");
     println!("cargo:rerun-if-changed=build.rs");
     let here = PathBuf::from(std::env::var_os("CARGO_MANIFEST_DIR").unwrap_or_default());
-    let folder = match std::env::var_os("PUNELOVASH_LIB_DIR") {
-        Some(folder) => PathBuf::from(folder),
-        None => here.join("../../target/staticlib"),
-    };
+    let named = std::env::var_os("PUNELOVASH_LIB_DIR");
+    let folder = here.join(named.unwrap_or("../../target/staticlib".into()));
     let archive = folder.join("libcapi.a");
     if !archive.is_file() {
         println!(
