@@ -1,0 +1,223 @@
+//! Blocks, volumes and buffers of any bytes and lengths: every call answers by the table, a refusal changes nothing, and no
+//! byte outside of what is lent is written.
+
+mod bench;
+
+use bench::Random;
+use punelovash::{
+    Answer, DriverWord, EntryID, Geometry, Log, LogRead, LogWrite, Mode, Outcome, Report, Request,
+    BLOCK_SIZE,
+};
+use std::collections::BTreeMap;
+
+const ROUNDS: usize = 150_000;
+const GUARD: usize = 16;
+const CEILING: usize = 1_879_048_192;
+
+/// Bytes between two rows of 0xA5.
+struct Guarded(Vec<u8>);
+
+impl Guarded {
+    fn new(bytes: &[u8]) -> Guarded {
+        let mut all = vec![0xA5; GUARD];
+        all.extend_from_slice(bytes);
+        all.extend_from_slice(&[0xA5; GUARD]);
+        Guarded(all)
+    }
+
+    fn bytes(&mut self) -> &mut [u8] {
+        let end = self.0.len() - GUARD;
+        &mut self.0[GUARD..end]
+    }
+
+    fn check(&self) {
+        let end = self.0.len() - GUARD;
+        assert!(self.0[..GUARD].iter().all(|byte| *byte == 0xA5));
+        assert!(self.0[end..].iter().all(|byte| *byte == 0xA5));
+    }
+}
+
+fn put(block: &mut [u8], at: usize, number: u32) {
+    block[at..at + 4].copy_from_slice(&number.to_le_bytes());
+}
+
+/// A block of any bytes, or one that is nearly a log's.
+fn block(random: &mut Random, p: usize, n: usize) -> [u8; BLOCK_SIZE] {
+    let mut block: [u8; BLOCK_SIZE] = random.bytes(BLOCK_SIZE).try_into().unwrap();
+    if random.one_in(20) {
+        return block;
+    }
+    put(&mut block, 0, p as u32);
+    put(&mut block, 4, n as u32);
+    put(&mut block, 8, random.below(100) as u32);
+    for flag in &mut block[12..15] {
+        *flag = random.below(2) as u8;
+    }
+    block[15] = random.below(6) as u8;
+    let last = CEILING / p - 1;
+    let any = random.below(last);
+    let oldest = random.pick(&[0, 1, n, any, last]) * p + 4;
+    let ahead = random.below(p * (n + 1));
+    let append = random.pick(&[oldest + ahead, oldest + p - 4]);
+    let any = random.below(append + 9);
+    let read = random.pick(&[oldest, append, append + 1, any]);
+    put(&mut block, 16, oldest as u32);
+    put(&mut block, 20, read as u32);
+    put(&mut block, 24, append as u32);
+    put(&mut block, 28, random.below(p - 7) as u32);
+    if random.one_in(6) {
+        let at = random.below(32);
+        block[at] = random.next() as u8;
+    }
+    block
+}
+
+/// Bytes that are now and then headers and small lengths.
+fn bytes(random: &mut Random, length: usize) -> Vec<u8> {
+    let kind = random.below(4);
+    (0..length)
+        .map(|i| match kind {
+            0 => 0xFF,
+            1 => random.next() as u8,
+            _ if i % 4 == 0 => random.pick(&[1, 2, 4, 8, 0, 0xFF]),
+            _ => 0,
+        })
+        .collect()
+}
+
+#[test]
+fn any_bytes_are_answered_by_the_table() {
+    let mut random = Random(7);
+    let mut met: BTreeMap<(usize, u32), u64> = BTreeMap::new();
+    for _ in 0..ROUNDS {
+        let p = random.pick(&[16, 16, 32, 64]);
+        let n = 1 + random.below(4);
+        let length = |random: &mut Random, right: usize| match random.below(40) {
+            0 => 0,
+            1 => right - 1,
+            2 => right + 1,
+            _ => right,
+        };
+        let lengths = [
+            length(&mut random, n * p),
+            length(&mut random, p),
+            length(&mut random, p),
+        ];
+        let volume = bytes(&mut random, lengths[0]);
+        let page = bytes(&mut random, lengths[1]);
+        let hold = bytes(&mut random, lengths[2]);
+        let room = random.below(p + 3);
+        let buffer = bytes(&mut random, room);
+        let size = random.pick(&[0, 1, p - 8, p, room, room + 1, usize::MAX]);
+        let any = random.below(8 * p);
+        let id = random.pick(&[4, p + 4, 0, usize::MAX, any]);
+        let word = random.pick(&[DriverWord::Ok, DriverWord::Busy, DriverWord::Fail]);
+        let good = random.one_in(2);
+        let call = random.below(9);
+        let before = block(&mut random, p, n);
+        let sizes = Geometry {
+            page_size: random.pick(&[p as u32, p as u32, p as u32, 0, 24, u32::MAX]),
+            page_count: n as u32,
+            first_page: random.pick(&[0, 5, 16_777_215, 16_777_216]),
+        };
+
+        let mut pages = Guarded::new(&page);
+        let mut holds = Guarded::new(&hold);
+        let mut buffers = Guarded::new(&buffer);
+        let mut log = Log::from_parts(before, pages.bytes(), holds.bytes());
+        let got = match call {
+            0 => log.append(&volume, &buffer, size, word),
+            1 => log.read(&volume, buffers.bytes(), size),
+            2 => log.seek(&volume, EntryID(id)),
+            3 => log.sync(&volume, word),
+            4 => log.erase(&volume, word),
+            5 => log.write_complete(&volume, good),
+            6 => log.erase_complete(&volume, good, word),
+            7 => log.deferred_call(&volume),
+            _ => log.restart(sizes, Mode::default(), &volume),
+        };
+        let _ = (log.state(), log.get_size(), log.log_start(), log.log_end());
+        let (after, _, _) = log.into_parts();
+        pages.check();
+        holds.check();
+        buffers.check();
+        *met.entry((call, got.answer.number())).or_default() += 1;
+        assert!(!matches!(got.answer, Answer::Other(_)), "{got:?}");
+
+        // sizes, mode and clients are a restart's to set
+        if call != 8 {
+            assert_eq!(after[..15], before[..15]);
+        }
+        let said = match word {
+            _ if ![0, 3, 4].contains(&call) => None,
+            DriverWord::Ok => None,
+            DriverWord::Busy => Some(Answer::Busy),
+            DriverWord::Fail => Some(Answer::Fail),
+        };
+        let nothing = Outcome {
+            answer: got.answer,
+            report: Report::Nothing,
+            request: Request::Nothing,
+        };
+        let refused = match got.answer {
+            Answer::Ok => false,
+            _ if got.request != Request::Nothing => {
+                assert_eq!(Some(got.answer), said, "the driver's refusal");
+                false
+            }
+            Answer::Cancel => {
+                // R = O
+                assert_eq!(after[20..24], before[16..20]);
+                assert_eq!(after[24..32], before[24..32]);
+                assert_eq!(got, nothing);
+                false
+            }
+            _ => true,
+        };
+        if refused {
+            assert_eq!(got, nothing);
+            assert_eq!(after[..32], before[..32], "the log after {:?}", got.answer);
+            assert_eq!(
+                pages.bytes(),
+                page,
+                "the page buffer after {:?}",
+                got.answer
+            );
+        }
+        if refused || call != 0 {
+            assert_eq!(holds.bytes(), hold, "the hold buffer");
+        }
+        if call != 1 || got.answer != Answer::Ok {
+            assert_eq!(buffers.bytes(), buffer, "the read buffer");
+        }
+    }
+    // every answer that a call can give was met
+    let table: [(usize, &[u32]); 9] = [
+        (0, &[0, 1, 2, 5, 6, 7, 20, 21, 23]),
+        (1, &[0, 1, 2, 5, 6, 7, 8, 20, 21]),
+        (2, &[0, 2, 5, 6, 20, 21]),
+        (3, &[0, 1, 2, 5, 20, 21]),
+        (4, &[0, 1, 2, 5, 20, 21]),
+        (5, &[0, 20, 21, 22]),
+        (6, &[0, 20, 21, 22]),
+        (7, &[0, 20, 21, 22]),
+        (8, &[0, 20]),
+    ];
+    for (call, answers) in table {
+        let found: Vec<u32> = met
+            .keys()
+            .filter(|key| key.0 == call)
+            .map(|key| key.1)
+            .collect();
+        for answer in &found {
+            assert!(answers.contains(answer), "call {call} answered {answer}");
+        }
+        for answer in answers {
+            assert!(
+                found.contains(answer),
+                "call {call} never answered {answer}"
+            );
+        }
+    }
+    println!("{ROUNDS} calls: {met:?}");
+}
