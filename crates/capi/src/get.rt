@@ -17,7 +17,7 @@ pub extern "C" fn punelovash_log_start(block: &[u8]) -> usize
     }
 }
 
-// The ID that the next entry appended will have.
+// The append ID: that of the next entry, where it fits in the page.
 #[no_mangle]
 pub extern "C" fn punelovash_log_end(block: &[u8]) -> usize
     ensures { λ r. ⌜ r ≡ appendOf (now (block .entry)) ⌝ }
