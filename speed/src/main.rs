@@ -1,0 +1,57 @@
+//! Drives Tock's `Log` and the proved log by the same calls, and compares what they cost.
+//!
+//!     speed                  the tables: times, instructions (by valgrind), the growth of restart, stack use
+//!     speed rows             the names of the rows
+//!     speed count ROW SIDE   a row's calls, once, for callgrind; SIDE is rust or rattle
+
+mod count;
+#[rustfmt::skip] // not ours to format
+#[allow(dead_code)]
+#[path = "../../target/speed/log.rs"]
+mod log;
+#[allow(dead_code)]
+#[path = "../../tests/oracle/src/memory.rs"]
+mod memory;
+mod original;
+mod rattle;
+mod row;
+mod side;
+mod stack;
+mod table;
+mod time;
+
+use original::Original;
+use rattle::Rattle;
+use row::Row;
+use std::process::ExitCode;
+
+fn find(name: &str) -> Option<Row> {
+    row::rows().into_iter().find(|row| row.key() == name)
+}
+
+fn count(name: &str, side: &str) -> Option<()> {
+    let row = find(name)?;
+    match (side, row.page_size) {
+        ("rattle", _) => count::run::<Rattle>(&row),
+        ("rust", 512) => count::run::<Original<512>>(&row),
+        ("rust", 4096) => count::run::<Original<4096>>(&row),
+        _ => return None,
+    }
+    Some(())
+}
+
+fn main() -> ExitCode {
+    let arguments: Vec<String> = std::env::args().skip(1).collect();
+    let arguments: Vec<&str> = arguments.iter().map(String::as_str).collect();
+    let done = match arguments[..] {
+        [] => Some(table::print()),
+        ["rows"] => Some(row::rows().iter().for_each(|row| println!("{}", row.key()))),
+        ["count", row, side] => count(row, side),
+        _ => None,
+    };
+    if done.is_none() {
+        eprintln!("usage: speed [rows | count ROW rust|rattle]");
+        return ExitCode::from(2);
+    }
+    ExitCode::SUCCESS
+}
