@@ -2,6 +2,7 @@
 
 use crate::row::Row;
 use crate::side::Side;
+use std::path::Path;
 use std::process::Command;
 
 /// How often the calls of a row are measured in one run.
@@ -23,9 +24,8 @@ pub fn run<S: Side>(row: &Row) {
     }
 }
 
-/// Instructions a call; nothing where valgrind can't be run.
-pub fn instructions(row: &Row, side: &str) -> Option<f64> {
-    let program = std::env::current_exe().ok()?;
+/// Instructions a call in a build of this program; nothing where valgrind can't be run.
+pub fn instructions(program: &Path, row: &Row, side: &str) -> Option<f64> {
     let run = Command::new("valgrind")
         .args([
             "--tool=callgrind",

@@ -1,6 +1,6 @@
 //! Drives Tock's `Log` and the proved log by the same calls, and compares what they cost.
 //!
-//!     speed                  the tables: times, instructions (by valgrind), the growth of restart, stack use
+//!     speed tables [WHOLE]   times, instructions (by valgrind), the growth of restart, stack use; WHOLE is this program in the profile `whole`
 //!     speed rows             the names of the rows
 //!     speed count ROW SIDE   a row's calls, once, for callgrind; SIDE is rust or rattle
 
@@ -23,6 +23,7 @@ mod time;
 use original::Original;
 use rattle::Rattle;
 use row::Row;
+use std::path::Path;
 use std::process::ExitCode;
 
 fn find(name: &str) -> Option<Row> {
@@ -44,13 +45,14 @@ fn main() -> ExitCode {
     let arguments: Vec<String> = std::env::args().skip(1).collect();
     let arguments: Vec<&str> = arguments.iter().map(String::as_str).collect();
     let done = match arguments[..] {
-        [] => Some(table::print()),
+        ["tables"] => Some(table::print(None)),
+        ["tables", whole] => Some(table::print(Some(Path::new(whole)))),
         ["rows"] => Some(row::rows().iter().for_each(|row| println!("{}", row.key()))),
         ["count", row, side] => count(row, side),
         _ => None,
     };
     if done.is_none() {
-        eprintln!("usage: speed [rows | count ROW rust|rattle]");
+        eprintln!("usage: speed tables [WHOLE] | rows | count ROW rust|rattle");
         return ExitCode::from(2);
     }
     ExitCode::SUCCESS

@@ -2,6 +2,17 @@
 
 use crate::side::{fill_page, flush, next_page, store, Side};
 
+/// Makes calls so many times on each log. A macro, so that they stand in the loop and not in a function of their own.
+macro_rules! repeat {
+    ($logs:expr, $times:expr, $log:ident => $calls:expr) => {
+        for $log in $logs.iter_mut() {
+            for _ in 0..$times {
+                $calls;
+            }
+        }
+    };
+}
+
 #[derive(Clone, Copy, PartialEq)]
 pub enum Kind {
     /// An append that fits in the page.
@@ -39,7 +50,7 @@ pub struct Row {
     pub left: usize,
     /// How many logs there are: more than one where a call can't be repeated at once.
     logs: usize,
-    /// How many times the calls are made on each log.
+    /// How many times the calls are made on each log: once where there are more than one.
     times: usize,
 }
 
@@ -268,38 +279,39 @@ impl Row {
         use Kind::*;
         let Row { data, times, .. } = *self;
         match self.kind {
-            Fits => repeat(logs, times, |log| log.append(data)),
-            FlushAppend => repeat(logs, 1, |log| log.append(data)),
-            FlushComplete | SyncComplete => repeat(logs, 1, |log| log.write_complete()),
-            Flush => repeat(logs, 1, |log| {
+            Fits => repeat!(logs, times, log => log.append(data)),
+            FlushAppend => repeat!(logs, 1, log => log.append(data)),
+            FlushComplete | SyncComplete => repeat!(logs, 1, log => log.write_complete()),
+            Flush => repeat!(logs, 1, log => {
                 log.append(data);
                 log.write_complete();
             }),
-            Steady => repeat(logs, times, |log| {
+            Steady => repeat!(logs, times, log => {
                 log.append(data);
                 if log.writing() {
                     log.write_complete();
                 }
             }),
-            ReadVolume | ReadBuffer => repeat(logs, times, |log| {
+            ReadVolume | ReadBuffer => repeat!(logs, times, log => {
                 log.read();
                 log.deferred_call();
             }),
-            ReadAlone => repeat(logs, 1, |log| log.read()),
-            ReadDeferred => repeat(logs, 1, |log| log.deferred_call()),
+            ReadAlone => repeat!(logs, 1, log => log.read()),
+            ReadDeferred => repeat!(logs, 1, log => log.deferred_call()),
             Seek => {
                 let id = logs[0].oldest();
-                repeat(logs, times, |log| {
+                repeat!(logs, times, log => {
                     log.seek(id);
                     log.deferred_call();
                 });
             }
-            Sync => repeat(logs, 1, |log| {
+            Sync => repeat!(logs, 1, log => {
                 log.sync();
                 log.write_complete();
             }),
-            SyncAlone | SyncEmpty => repeat(logs, times, |log| log.sync()),
-            Restart => repeat(logs, times, |log| log.restart()),
+            SyncAlone => repeat!(logs, 1, log => log.sync()),
+            SyncEmpty => repeat!(logs, times, log => log.sync()),
+            Restart => repeat!(logs, times, log => log.restart()),
         }
     }
 
@@ -314,15 +326,6 @@ impl Row {
             "{}: reports are missing",
             self.name()
         );
-    }
-}
-
-#[inline(always)]
-fn repeat<S: Side>(logs: &mut [S], times: usize, mut call: impl FnMut(&mut S)) {
-    for log in logs {
-        for _ in 0..times {
-            call(log);
-        }
     }
 }
 

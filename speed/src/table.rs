@@ -4,6 +4,7 @@ use crate::count;
 use crate::row::{rows, Kind, Row};
 use crate::stack;
 use crate::time::{self, Spread, Times};
+use std::path::Path;
 
 /// A row with what was measured.
 struct Line {
@@ -11,18 +12,35 @@ struct Line {
     times: Times,
     /// Instructions a call, of Rust and of Rattle.
     instructions: Option<(f64, f64)>,
+    /// Those of Rust where it is compiled as one piece.
+    whole: Option<f64>,
 }
 
 impl Line {
-    fn of(row: Row) -> Line {
-        let times = time::of(&row);
-        let rust = count::instructions(&row, "rust");
-        let rattle = count::instructions(&row, "rattle");
+    fn of(row: Row, whole: Option<&Path>) -> Line {
+        let program = std::env::current_exe().expect("this program has a path");
+        let rust = count::instructions(&program, &row, "rust");
+        let rattle = count::instructions(&program, &row, "rattle");
         Line {
-            row,
-            times,
+            times: time::of(&row),
             instructions: rust.zip(rattle),
+            whole: whole.and_then(|whole| count::instructions(whole, &row, "rust")),
+            row,
         }
+    }
+}
+
+impl Line {
+    /// The columns of instructions.
+    fn counts(&self) -> [String; 5] {
+        let rust = self.instructions.map(|both| both.0);
+        let rattle = self.instructions.map(|both| both.1);
+        let ratio = |to: Option<f64>| {
+            let ratio = rattle.zip(to).map(|(rattle, to)| rattle / to);
+            ratio.map_or("-".into(), |ratio| format!("{ratio:.2}"))
+        };
+        let [a, b, c] = [rust, self.whole, rattle].map(|n| n.map_or("-".into(), short));
+        [a, b, c, ratio(rust), ratio(self.whole)]
     }
 }
 
@@ -57,27 +75,12 @@ fn spread(spread: &Spread) -> String {
 }
 
 fn print_lines<'a>(lines: impl Iterator<Item = &'a Line>) {
-    println!("| call | instructions: Rust | Rattle | ratio | ns: Rust | Rattle | ratio |");
-    println!("|---|---|---|---|---|---|---|");
-    for Line {
-        row,
-        times,
-        instructions,
-    } in lines
-    {
-        let [rust, rattle, ratio] = match instructions {
-            Some((rust, rattle)) => [
-                short(*rust),
-                short(*rattle),
-                format!("{:.2}", rattle / rust),
-            ],
-            None => ["-".into(), "-".into(), "-".into()],
-        };
-        let [a, b, c] = [&times.rust, &times.rattle, &times.ratio].map(spread);
-        println!(
-            "| {} | {rust} | {rattle} | {ratio} | {a} | {b} | {c} |",
-            row.name()
-        );
+    println!("| call | instructions: Rust | Rust, one piece | Rattle | ratio | ratio to one piece | ns: Rust | Rattle | ratio |");
+    println!("|---|---|---|---|---|---|---|---|---|");
+    for line in lines {
+        let counts = line.counts().join(" | ");
+        let times = [&line.times.rust, &line.times.rattle, &line.times.ratio].map(spread);
+        println!("| {} | {counts} | {} |", line.row.name(), times.join(" | "));
     }
     println!();
 }
@@ -126,8 +129,9 @@ fn print_stack() {
     println!();
 }
 
-pub fn print() {
-    let lines: Vec<Line> = rows().into_iter().map(Line::of).collect();
+pub fn print(whole: Option<&Path>) {
+    let lines = rows().into_iter().map(|row| Line::of(row, whole));
+    let lines: Vec<Line> = lines.collect();
     println!("## Calls\n");
     print_lines(lines.iter().filter(|line| !line.row.is_part()));
     println!("## Parts of them\n");
