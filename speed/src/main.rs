@@ -30,28 +30,36 @@ fn find(name: &str) -> Option<Row> {
     row::rows().into_iter().find(|row| row.key() == name)
 }
 
-fn count(name: &str, side: &str) -> Option<()> {
-    let row = find(name)?;
+/// Whether there is such a row and side.
+fn count(name: &str, side: &str) -> bool {
+    let Some(row) = find(name) else {
+        return false;
+    };
     match (side, row.page_size) {
         ("rattle", _) => count::run::<Rattle>(&row),
         ("rust", 512) => count::run::<Original<512>>(&row),
         ("rust", 4096) => count::run::<Original<4096>>(&row),
-        _ => return None,
+        _ => return false,
     }
-    Some(())
+    true
+}
+
+/// Whether the words are a command.
+fn run(words: &[&str]) -> bool {
+    match *words {
+        ["tables"] => table::print(None),
+        ["tables", whole] => table::print(Some(Path::new(whole))),
+        ["rows"] => row::rows().iter().for_each(|row| println!("{}", row.key())),
+        ["count", row, side] => return count(row, side),
+        _ => return false,
+    }
+    true
 }
 
 fn main() -> ExitCode {
     let arguments: Vec<String> = std::env::args().skip(1).collect();
-    let arguments: Vec<&str> = arguments.iter().map(String::as_str).collect();
-    let done = match arguments[..] {
-        ["tables"] => Some(table::print(None)),
-        ["tables", whole] => Some(table::print(Some(Path::new(whole)))),
-        ["rows"] => Some(row::rows().iter().for_each(|row| println!("{}", row.key()))),
-        ["count", row, side] => count(row, side),
-        _ => None,
-    };
-    if done.is_none() {
+    let words: Vec<&str> = arguments.iter().map(String::as_str).collect();
+    if !run(&words) {
         eprintln!("usage: speed tables [WHOLE] | rows | count ROW rust|rattle");
         return ExitCode::from(2);
     }
