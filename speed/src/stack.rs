@@ -1,0 +1,97 @@
+//! The stack that a call uses: it runs on a stack of its own, painted beforehand, and the deepest byte that changed is looked for.
+
+use crate::original::Original;
+use crate::rattle::Rattle;
+use crate::side::{fill_page, flush, next_page, Side};
+use std::arch::asm;
+use std::ffi::c_void;
+
+const STACK: usize = 1 << 16;
+const PAINT: u8 = 0xA5;
+
+extern "C" fn enter(call: *mut c_void) {
+    let call: &mut &mut dyn FnMut() = unsafe { &mut *call.cast() };
+    call();
+}
+
+/// Calls `enter` with the stack pointer at `top`, a multiple of 16.
+fn on_stack(top: *mut u8, mut call: &mut dyn FnMut()) {
+    let call: *mut &mut dyn FnMut() = &mut call;
+    unsafe {
+        asm!(
+            "mov r12, rsp",
+            "mov rsp, {top}",
+            "call {enter}",
+            "mov rsp, r12",
+            top = in(reg) top,
+            enter = sym enter,
+            in("rdi") call,
+            out("r12") _,
+            clobber_abi("C"),
+        );
+    }
+}
+
+fn depth(call: &mut dyn FnMut()) -> usize {
+    let mut stack = vec![PAINT; STACK + 16];
+    let skip = stack.as_ptr().align_offset(16);
+    on_stack(stack[skip..].as_mut_ptr().wrapping_add(STACK), call);
+    let untouched = stack[skip..]
+        .iter()
+        .take_while(|byte| **byte == PAINT)
+        .count();
+    STACK - untouched
+}
+
+/// The return address of a call.
+const RETURN: usize = size_of::<usize>();
+
+/// The bytes of stack that a call uses, its arguments and its return address included: what an empty call has beyond that is taken off.
+fn used(mut call: impl FnMut()) -> usize {
+    depth(&mut call) - (depth(&mut || ()) - RETURN)
+}
+
+pub struct Use {
+    pub call: &'static str,
+    pub rust: usize,
+    pub rattle: usize,
+}
+
+/// The deepest of each call, over the ways through it that a log which works takes.
+fn uses<S: Side>() -> Vec<(&'static str, usize)> {
+    let mut side = S::new(512, 4);
+    let log = &mut side;
+    let mut all = vec![("restart", used(|| log.restart()))];
+    let fits = used(|| log.append(64));
+    (0..5).for_each(|_| next_page(log, 64));
+    fill_page(log, 32);
+    let flushes = used(|| log.append(64));
+    all.push(("append", fits.max(flushes)));
+    log.flash();
+    let stores = used(|| log.write_complete());
+    let id = log.oldest();
+    all.push(("seek", used(|| log.seek(id))));
+    let sought = used(|| log.deferred_call());
+    all.push(("read", used(|| log.read())));
+    all.push(("deferred call", sought.max(used(|| log.deferred_call()))));
+    all.push(("sync", used(|| log.sync())));
+    log.flash();
+    all.push(("write complete", stores.max(used(|| log.write_complete()))));
+    fill_page(log, 0);
+    flush(log);
+    all[0].1 = all[0].1.max(used(|| log.restart()));
+    all.push(("erase", used(|| log.erase())));
+    let mut erased = 0;
+    let before = log.reports();
+    while log.reports() == before {
+        erased = erased.max(used(|| log.erase_complete()));
+    }
+    all.push(("erase complete", erased));
+    all
+}
+
+pub fn table() -> Vec<Use> {
+    let both = uses::<Original<512>>().into_iter().zip(uses::<Rattle>());
+    both.map(|((call, rust), (_, rattle))| Use { call, rust, rattle })
+        .collect()
+}
