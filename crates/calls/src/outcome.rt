@@ -16,7 +16,7 @@ fn append_done(length: usize, lost: bool, result: Appended) {
     print::word(b"append_done");
     print::number(length);
     print::number(flag(lost));
-    print::number(answer::append_number(result));
+    print::number(answer::append_number(result) as usize);
 }
 
 fn done(text: &[u8], result: usize) {
@@ -34,8 +34,8 @@ fn report(r: Report) {
     match r {
         Report::Nothing => print::word(b"-"),
         Report::AppendDone(length, lost, result) => append_done(length, lost, result),
-        Report::SyncDone(result) => done(b"sync_done", answer::sync_number(result)),
-        Report::EraseDone(result) => done(b"erase_done", answer::erase_number(result)),
+        Report::SyncDone(result) => done(b"sync_done", answer::sync_number(result) as usize),
+        Report::EraseDone(result) => done(b"erase_done", answer::erase_number(result) as usize),
         Report::ReadDone(length) => read_done(length),
         Report::SeekDone => done(b"seek_done", 0),
     }

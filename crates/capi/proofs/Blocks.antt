@@ -13,14 +13,14 @@ use Rattle.page.specs.Word.{wordBytes}
 use Rattle.page.specs.Bytes.{overwrite}
 use Rattle.page.proofs.Overwrites.{stores-overwrite}
 use Rattle.log.specs.Answer.{Report, Request, number}
-use Rattle.log.specs.Log.{Geometry, Log, logOf}
+use Rattle.log.specs.Log.{Geometry, Log, logOf, stateNumber}
 use Rattle.log.specs.declared.answer.Answer as code
 use Rattle.log.specs.declared.answer.Answer.the-variants as a
 use Rattle.log.specs.declared.state.Log as log
 use Rattle.call.specs.Outcome.{Outcome}
 use Rattle.capi.specs.declared.block.Loaded as loads
 use Rattle.capi.specs.declared.block.Loaded.the-variants as v
-use Rattle.capi.specs.Block.{stateNumber, reportKind, reportLost, reportResult, reportLength, requestKind, requestPage, at, withLog, withReport, withRequest, saved, sized, loaded, loadedOf}
+use Rattle.capi.specs.Block.{reportKind, reportLost, reportResult, reportLength, requestKind, requestPage, at, withLog, withReport, withRequest, saved, sized, loaded, loadedOf}
 
 -- one byte stored
 pub put-byte : (block : List ℕ) (place b : ℕ) → place + 1 ≤ length block → set block place b ≡ overwrite block place (b ∷ [])

@@ -13,9 +13,9 @@ use Rattle.page.specs.Word.{le, wordAt, wordBytes}
 use Rattle.page.proofs.Overwrites.{length-overwrite, overwrite-before, window-left}
 use Rattle.page.proofs.Words.{wordAt-written}
 use Rattle.log.specs.Answer.{Report, Request}
-use Rattle.log.specs.Log.{State, Idle, Read, Seek, Append, Sync, Erase, Geometry, Log}
+use Rattle.log.specs.Log.{State, Idle, Read, Seek, Append, Sync, Erase, Geometry, Log, stateNumber}
 use Rattle.call.specs.Outcome.{Outcome}
-use Rattle.capi.specs.Block.{stateNumber, stateFrom, logAt, loaded, reportKind, reportLost, reportResult, requestKind, at, withLog, withReport, withRequest, saved}
+use Rattle.capi.specs.Block.{stateFrom, logAt, loaded, reportKind, reportLost, reportResult, requestKind, at, withLog, withReport, withRequest, saved}
 use Rattle.capi.proofs.Blocks.{put-byte, refuses-not, passes}
 
 -- bytes put at a place keep the block's size and what is before them

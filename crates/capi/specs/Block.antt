@@ -10,7 +10,7 @@ use Rattle.page.specs.Word.{wordAt, wordBytes}
 use Rattle.page.specs.Bytes.{overwrite}
 use Rattle.log.specs.Answer.{Report, nothing, append-done, sync-done, erase-done, read-done, seek-done, Request, write, erase}
 use Rattle.log.specs.Answer as answer
-use Rattle.log.specs.Log.{Geometry, State, Idle, Read, Seek, Append, Sync, Erase, Log, logOf}
+use Rattle.log.specs.Log.{Geometry, State, Idle, Read, Seek, Append, Sync, Erase, stateNumber, Log, logOf}
 use Rattle.call.specs.Outcome.{Outcome, Word, ok, busy, fail}
 use Rattle.capi.specs.declared.block.Loaded as code
 use Rattle.capi.specs.declared.block.Loaded.the-variants as c
@@ -18,15 +18,7 @@ use Rattle.capi.specs.declared.block.Loaded.the-variants as c
 abbrev pub blockSize : ℕ
 blockSize = 44
 
--- the state's number, in the order of document 01
-abbrev pub stateNumber : State → ℕ
-stateNumber Idle = 0
-stateNumber Read = 1
-stateNumber Seek = 2
-stateNumber Append = 3
-stateNumber Sync = 4
-stateNumber Erase = 5
-
+-- the state of a number
 abbrev pub stateFrom : ℕ → State
 stateFrom k = pick (eqb k 0) Idle (pick (eqb k 1) Read (pick (eqb k 2) Seek (pick (eqb k 3) Append (pick (eqb k 4) Sync Erase))))
 

@@ -14,6 +14,7 @@ use call::outcome::Outcome;
 use log::answer;
 use log::answer::Report;
 use log::answer::Request;
+use log::state;
 use log::state::Geometry;
 use log::state::Log;
 use page::id::EntryID;
@@ -105,7 +106,7 @@ fn save_log(log: Log, block: &mut [u8])
     ensures { λ r. ⌜ now (block .exit) ≡ withLog (logOf log) (now (block .entry)) ⌝ }
 {
     let state = log.state;
-    put_byte(block, 15, numbers::state_number(state));
+    put_byte(block, 15, state::state_number(state));
     put_word(block, 16, log.oldest_entry_id.0);
     put_word(block, 20, log.read_entry_id.0);
     put_word(block, 24, log.append_entry_id.0);

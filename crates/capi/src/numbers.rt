@@ -1,30 +1,15 @@
 // States, reports, requests and the driver's word as numbers.
 ghost use mathlib.Core.Path.{_≡_};
 ghost use Rattle.page.specs.Pick.{pick};
-ghost use Rattle.log.specs.Answer.{appendedNumber, syncedNumber, erasedNumber, reportOf, requestOf};
+ghost use Rattle.log.specs.Answer.{reportOf, requestOf};
 ghost use Rattle.log.specs.Log.{stateOf};
 ghost use Rattle.call.specs.Outcome.{wordOf};
-ghost use Rattle.capi.specs.Block.{stateNumber, stateFrom, reportKind, reportLost, reportResult, reportLength, requestKind, requestPage, wordFrom};
+ghost use Rattle.capi.specs.Block.{stateFrom, reportKind, reportLost, reportResult, reportLength, requestKind, requestPage, wordFrom};
 use call::outcome::Driver;
-use log::answer::Appended;
-use log::answer::Erased;
+use log::answer;
 use log::answer::Report;
 use log::answer::Request;
-use log::answer::Synced;
 use log::state::State;
-
-pub(crate) fn state_number(state: State) -> u8
-    ensures { λ r. ⌜ r ≡ stateNumber (stateOf state) ⌝ }
-{
-    match state {
-        State::Idle => 0,
-        State::Read => 1,
-        State::Seek => 2,
-        State::Append => 3,
-        State::Sync => 4,
-        State::Erase => 5,
-    }
-}
 
 pub(crate) fn state_from(number: u8) -> State
     ensures { λ r. ⌜ stateOf r ≡ stateFrom number ⌝ }
@@ -71,43 +56,14 @@ pub(crate) fn report_lost(report: Report) -> u8
     }
 }
 
-fn append_result(result: Appended) -> u8
-    ensures { λ r. ⌜ r ≡ appendedNumber result ⌝ }
-{
-    match result {
-        Appended::OK => 0,
-        Appended::FAIL => 1,
-        Appended::CANCEL => 8,
-    }
-}
-
-fn sync_result(result: Synced) -> u8
-    ensures { λ r. ⌜ r ≡ syncedNumber result ⌝ }
-{
-    match result {
-        Synced::OK => 0,
-        Synced::FAIL => 1,
-    }
-}
-
-fn erase_result(result: Erased) -> u8
-    ensures { λ r. ⌜ r ≡ erasedNumber result ⌝ }
-{
-    match result {
-        Erased::OK => 0,
-        Erased::FAIL => 1,
-        Erased::BUSY => 2,
-    }
-}
-
 pub(crate) fn report_result(report: Report) -> u8
     ensures { λ r. ⌜ r ≡ reportResult (reportOf report) ⌝ }
 {
     match report {
         Report::Nothing => 0,
-        Report::AppendDone(length, lost, result) => append_result(result),
-        Report::SyncDone(result) => sync_result(result),
-        Report::EraseDone(result) => erase_result(result),
+        Report::AppendDone(length, lost, result) => answer::append_number(result),
+        Report::SyncDone(result) => answer::sync_number(result),
+        Report::EraseDone(result) => answer::erase_number(result),
         Report::ReadDone(length) => 0,
         Report::SeekDone => 0,
     }

@@ -6,8 +6,8 @@ use log::answer;
 use log::answer::Appended;
 use log::answer::Report;
 use log::answer::Request;
+use log::state;
 use log::state::Log;
-use log::state::State;
 
 // A byte goes to the line; one that has no room is left out.
 fn put_byte(line: &mut [u8], at: usize, byte: u8) -> usize {
@@ -96,7 +96,7 @@ fn append_report(line: &mut [u8], at: usize, length: usize, lost: bool, result: 
     let name = field(line, at, b"append_done");
     let size = number(line, name, length);
     let flag = number(line, size, if lost { 1 } else { 0 });
-    number(line, flag, answer::append_number(result))
+    number(line, flag, answer::append_number(result) as usize)
 }
 
 // A name out of the list of those that a number follows, and the number.
@@ -110,8 +110,8 @@ fn report(line: &mut [u8], at: usize, report: Report) -> usize {
     match report {
         Report::Nothing => field(line, at, b"-"),
         Report::AppendDone(length, lost, result) => append_report(line, at, length, lost, result),
-        Report::SyncDone(result) => named(line, at, 0, answer::sync_number(result)),
-        Report::EraseDone(result) => named(line, at, 1, answer::erase_number(result)),
+        Report::SyncDone(result) => named(line, at, 0, answer::sync_number(result) as usize),
+        Report::EraseDone(result) => named(line, at, 1, answer::erase_number(result) as usize),
         Report::ReadDone(length) => read_report(line, at, length),
         Report::SeekDone => named(line, at, 3, 0),
     }
@@ -130,22 +130,15 @@ fn request(line: &mut [u8], at: usize, request: Request) -> usize {
     }
 }
 
-fn state_number(state: State) -> usize {
-    match state {
-        State::Idle => 0,
-        State::Read => 1,
-        State::Seek => 2,
-        State::Append => 3,
-        State::Sync => 4,
-        State::Erase => 5,
-    }
-}
-
 // The state and its IDs.
 pub fn log_fields(line: &mut [u8], at: usize, log: Log) -> usize {
     let state = log.state;
     let list = b"idle read seek append sync erase";
-    let start = field(line, at, text::word(list, state_number(state)));
+    let start = field(
+        line,
+        at,
+        text::word(list, state::state_number(state) as usize),
+    );
     let oldest = number(line, start, log.oldest_entry_id.0);
     let read = number(line, oldest, log.read_entry_id.0);
     let append = number(line, read, log.append_entry_id.0);

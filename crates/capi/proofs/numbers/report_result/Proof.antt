@@ -9,20 +9,20 @@ enum-told c = search needs
 enum-known-report : tie.Need-enum-known-report
 enum-known-report c = search needs
 
-append-result-requires : tie.Need-append-result-requires
-append-result-requires c κs = search needs
+append-number-requires : tie.Need-append-number-requires
+append-number-requires c κs = search needs
 
 enum-known-report-2 : tie.Need-enum-known-report-2
 enum-known-report-2 c = search needs
 
-sync-result-requires : tie.Need-sync-result-requires
-sync-result-requires c κs = search needs
+sync-number-requires : tie.Need-sync-number-requires
+sync-number-requires c κs = search needs
 
 enum-known-report-3 : tie.Need-enum-known-report-3
 enum-known-report-3 c = search needs
 
-erase-result-requires : tie.Need-erase-result-requires
-erase-result-requires c κs = search needs
+erase-number-requires : tie.Need-erase-number-requires
+erase-number-requires c κs = search needs
 
 enum-known-report-4 : tie.Need-enum-known-report-4
 enum-known-report-4 c = search needs
@@ -34,7 +34,7 @@ returns : tie.Need-returns
 returns c = search needs
 
 returns-2 : tie.Need-returns-2
-returns-2 c = rw (c .before .before .report .given .1) (c .append-result .ensures)
+returns-2 c = rw (c .before .before .report .given .1) (c .append-number .ensures)
 
 returns-3 : tie.Need-returns-3
 returns-3 c = search needs
@@ -54,11 +54,11 @@ report-result-spec =
     (tie.spec
     enum-told
     enum-known-report
-    append-result-requires
+    append-number-requires
     enum-known-report-2
-    sync-result-requires
+    sync-number-requires
     enum-known-report-3
-    erase-result-requires
+    erase-number-requires
     enum-known-report-4
     enum-told-2
     returns
