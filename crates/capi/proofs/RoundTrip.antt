@@ -1,7 +1,7 @@
 -- What a call saves in a block is what the next call loads from it.
 use Prim.Native.Nat.{ℕ, _+_, _≤_, _<_, _^_}
 use mathlib.Core.Path.{_≡_, refl, sym, ap, _∙_}
-use mathlib.Core.Bool.{Bool, false}
+use mathlib.Core.Bool.{Bool, true, false}
 use mathlib.Core.List.{List, [], _∷_}
 use mathlib.Core.Option.{some, Option·some-injective}
 use native.Mathlib.Omega.{arith}
@@ -9,13 +9,14 @@ use lib.ListN.{length, take, drop, getD, take-append-drop}
 use lib.Seq.{getD-take, getD-set-same, length-take-le}
 use lib.Dec.{eqb, ltb}
 use borrow.Author.Tests.{eq-eqb, eqb-true, le-ltb}
+use Rattle.page.specs.Pick.{pick}
 use Rattle.page.specs.Word.{le, wordAt, wordBytes}
 use Rattle.page.proofs.Overwrites.{length-overwrite, overwrite-before, window-left}
 use Rattle.page.proofs.Words.{wordAt-written}
 use Rattle.log.specs.Answer.{Report, Request}
 use Rattle.log.specs.Log.{State, Idle, Read, Seek, Append, Sync, Erase, Geometry, Log, stateNumber}
 use Rattle.call.specs.Outcome.{Outcome}
-use Rattle.capi.specs.Block.{stateFrom, logAt, loaded, reportKind, reportLost, reportResult, requestKind, at, withLog, withReport, withRequest, saved}
+use Rattle.capi.specs.Block.{stateFrom, logAt, loaded, reportKind, reportLost, reportResult, requestKind, at, withLog, withReport, withRequest, saved, flag, sized}
 use Rattle.capi.proofs.Blocks.{put-byte, refuses-not, passes}
 
 -- bytes put at a place keep the block's size and what is before them
@@ -41,6 +42,11 @@ same-byte n i s t e h = sym (getD-take n s i 0 h) ∙ ap (λ x. getD x i 0) e �
 -- a word that was put is read, whatever is put after it
 put-word : (block : List ℕ) (place n : ℕ) → n < 2 ^ 32 → place ≤ 44 → length block ≡ 44 → wordAt 4 (at place (wordBytes 4 n) block) place ≡ n
 put-word block place n h p z = wordAt-written 4 n block place h (omega (arith, p, z))
+
+-- the same of a byte
+byte-put : (block : List ℕ) (place n : ℕ) → place < 44 → length block ≡ 44 → getD (at place (n ∷ []) block) place 0 ≡ n
+byte-put block place n h z =
+    ap (λ x. getD x place 0) (sym (put-byte block place n (omega (arith, h, z)))) ∙ getD-set-same block place n 0 (omega (arith, h, z))
 
 -- a report and a request keep the size, and the bytes below 32
 module _ (r : Report) (block : List ℕ) (z : length block ≡ 44) where
@@ -135,9 +141,7 @@ module _ (l : Log) (block : List ℕ) (z : length block ≡ 44) where
 
   log-state : getD (withLog l block) 15 0 ≡ stateNumber (l .state)
   log-state =
-      same-byte 16 15 b5 b1 (log-one 16 (omega arith)) (omega arith)
-      ∙ ap (λ x. getD x 15 0) (sym (put-byte block 15 (stateNumber (l .state)) (omega (arith, z))))
-      ∙ getD-set-same block 15 (stateNumber (l .state)) 0 (omega (arith, z))
+      same-byte 16 15 b5 b1 (log-one 16 (omega arith)) (omega arith) ∙ byte-put block 15 (stateNumber (l .state)) (omega arith) z
 
   log-oldest : l .oldest < 2 ^ 32 → wordAt 4 (withLog l block) 16 ≡ l .oldest
   log-oldest h = same-word 20 16 b5 b2 (log-two 20 (omega arith)) (omega arith) (omega arith) log-size z2 ∙ put-word b1 16 (l .oldest) h (omega arith) z1
@@ -168,28 +172,46 @@ state-back Append = refl
 state-back Sync = refl
 state-back Erase = refl
 
--- what a block that holds a log passes
-record Held (block : List ℕ) (l : Log) : Type 0 where
-  size : length block ≡ 44
-  circular : ltb 1 (getD block 12 0) ≡ false
-  reads : ltb 1 (getD block 13 0) ≡ false
-  appends : ltb 1 (getD block 14 0) ≡ false
-  log : logAt block ≡ l
+-- a flag at a place of a block
+pub record Flag (block : List ℕ) (place : ℕ) (b : Bool) : Type 0 where
+  pub small : ltb 1 (getD block place 0) ≡ false
+  pub tells : eqb (getD block place 0) 1 ≡ b
 
-held : (block : List ℕ) {l : Log} → loaded block ≡ some l → Held block l
+-- what stands before the state in a block with a log's sizes, mode and clients
+pub record Front (block : List ℕ) (l : Log) : Type 0 where
+  pub size : length block ≡ 44
+  pub p : wordAt 4 block 0 ≡ l .geometry .p
+  pub n : wordAt 4 block 4 ≡ l .geometry .n
+  pub first : wordAt 4 block 8 ≡ l .geometry .first
+  pub circular : Flag block 12 (l .circular)
+  pub reads : Flag block 13 (l .read-client)
+  pub appends : Flag block 14 (l .append-client)
+
+-- a block that holds a log has its front
+pub front : (block : List ℕ) {l : Log} → loaded block ≡ some l → Front block l
 unfolding loaded
-held block {l} e =
+front block {l} e =
     let a = passes (eqb (length block) 44) _ e in
     let b = refuses-not (ltb 1 (getD block 12 0)) _ (a .1) in
     let c = refuses-not (ltb 1 (getD block 13 0)) _ (b .1) in
     let d = refuses-not (ltb 1 (getD block 14 0)) _ (c .1) in
     let f = refuses-not (ltb 5 (getD block 15 0)) _ (d .1) in
-    record { size = eqb-true _ _ (a .0); circular = b .0; reads = c .0; appends = d .0; log = Option·some-injective _ _ (f .1) }
+    let log : logAt block ≡ l = Option·some-injective _ _ (f .1) in
+    record {
+      size = eqb-true _ _ (a .0);
+      p = ap (λ (k : Log). k .geometry .p) log;
+      n = ap (λ (k : Log). k .geometry .n) log;
+      first = ap (λ (k : Log). k .geometry .first) log;
+      circular = record { small = b .0; tells = ap (λ (k : Log). k .circular) log };
+      reads = record { small = c .0; tells = ap (λ (k : Log). k .read-client) log };
+      appends = record { small = d .0; tells = ap (λ (k : Log). k .append-client) log };
+    }
 
 -- the other way
-loads : (block : List ℕ) {l : Log} → Held block l → getD block 15 0 ≤ 5 → loaded block ≡ some l
+loads : (block : List ℕ) {l : Log} → Front block l → logAt block ≡ l → getD block 15 0 ≤ 5 → loaded block ≡ some l
 unfolding loaded
-loads block h s = rw (eq-eqb (length block) 44 (h .size), h .circular, h .reads, h .appends, le-ltb 5 (getD block 15 0) s) (ap some (h .log))
+loads block f e s =
+    rw (eq-eqb (length block) 44 (f .size), f .circular .small, f .reads .small, f .appends .small, le-ltb 5 (getD block 15 0) s) (ap some e)
 
 -- a log by its parts
 log-of : (m : Log) {p n first : ℕ} {circular reads appends : Bool} {state : State} {oldest read append kept : ℕ}
@@ -229,34 +251,122 @@ module _ (o : Outcome) (block : List ℕ) (z : length block ≡ 44) where
   byte : (i : ℕ) → i < 15 → getD after i 0 ≡ getD block i 0
   byte i j = same-byte 32 i after middle kept-front (omega (arith, j)) ∙ same-byte 15 i middle block (log-front (o .log) block z) j
 
--- a call changes no size, no mode and no client flag, and its numbers fit a word: the next call loads its log
-pub round-trip : (block : List ℕ) {l : Log} (o : Outcome) → loaded block ≡ some l
-    → o .log .geometry ≡ l .geometry → o .log .circular ≡ l .circular → o .log .read-client ≡ l .read-client → o .log .append-client ≡ l .append-client
-    → o .log .oldest < 2 ^ 32 → o .log .read < 2 ^ 32 → o .log .append < 2 ^ 32 → o .log .kept < 2 ^ 32
-    → loaded (saved o block) ≡ some (o .log)
+  -- and so the front
+  after-flag : (i : ℕ) {b : Bool} → i < 15 → Flag block i b → Flag after i b
+  after-flag i j f = record { small = ap (ltb 1) (byte i j) ∙ f .small; tells = ap (λ (k : ℕ). eqb k 1) (byte i j) ∙ f .tells }
+
+  after-front : {l : Log} → Front block l → Front after l
+  after-front f =
+      record {
+        size = after-size;
+        p = word 0 (omega arith) ∙ f .p;
+        n = word 4 (omega arith) ∙ f .n;
+        first = word 8 (omega arith) ∙ f .first;
+        circular = after-flag 12 (omega arith) (f .circular);
+        reads = after-flag 13 (omega arith) (f .reads);
+        appends = after-flag 14 (omega arith) (f .appends);
+      }
+
+-- numbers that fit a word
+pub record Small (l : Log) : Type 0 where
+  pub oldest : l .oldest < 2 ^ 32
+  pub read : l .read < 2 ^ 32
+  pub append : l .append < 2 ^ 32
+  pub kept : l .kept < 2 ^ 32
+
+-- "round trip": into a block with a log's sizes, mode and clients the log is saved so that the next call loads it
+pub round-trip : (block : List ℕ) (o : Outcome) → Front block (o .log) → Small (o .log) → loaded (saved o block) ≡ some (o .log)
 unfolding saved
-round-trip block {l} o e g circular reads appends oldest read append kept =
-    let h = held block e in
-    let z = h .size in
+round-trip block o f s =
+    let z = f .size in
+    let g = after-front o block z f in
     loads
     (after o block z)
-    (record {
-      size = after-size o block z;
-      circular = ap (ltb 1) (byte o block z 12 (omega arith)) ∙ h .circular;
-      reads = ap (ltb 1) (byte o block z 13 (omega arith)) ∙ h .reads;
-      appends = ap (ltb 1) (byte o block z 14 (omega arith)) ∙ h .appends;
-      log = log-of
-          (o .log)
-          (word o block z 0 (omega arith) ∙ ap (λ (k : Log). k .geometry .p) (h .log) ∙ sym (ap (λ (k : Geometry). k .p) g))
-          (word o block z 4 (omega arith) ∙ ap (λ (k : Log). k .geometry .n) (h .log) ∙ sym (ap (λ (k : Geometry). k .n) g))
-          (word o block z 8 (omega arith) ∙ ap (λ (k : Log). k .geometry .first) (h .log) ∙ sym (ap (λ (k : Geometry). k .first) g))
-          (ap (λ (k : ℕ). eqb k 1) (byte o block z 12 (omega arith)) ∙ ap (λ (k : Log). k .circular) (h .log) ∙ sym circular)
-          (ap (λ (k : ℕ). eqb k 1) (byte o block z 13 (omega arith)) ∙ ap (λ (k : Log). k .read-client) (h .log) ∙ sym reads)
-          (ap (λ (k : ℕ). eqb k 1) (byte o block z 14 (omega arith)) ∙ ap (λ (k : Log). k .append-client) (h .log) ∙ sym appends)
-          (ap stateFrom (after-state o block z) ∙ state-back (o .log .state))
-          (put o block z 16 (omega arith) ∙ log-oldest (o .log) block z oldest)
-          (put o block z 20 (omega arith) ∙ log-read (o .log) block z read)
-          (put o block z 24 (omega arith) ∙ log-append (o .log) block z append)
-          (put o block z 28 (omega arith) ∙ log-kept (o .log) block z kept);
-    })
+    g
+    (log-of
+    (o .log)
+    (g .p)
+    (g .n)
+    (g .first)
+    (g .circular .tells)
+    (g .reads .tells)
+    (g .appends .tells)
+    (ap stateFrom (after-state o block z) ∙ state-back (o .log .state))
+    (put o block z 16 (omega arith) ∙ log-oldest (o .log) block z (s .oldest))
+    (put o block z 20 (omega arith) ∙ log-read (o .log) block z (s .read))
+    (put o block z 24 (omega arith) ∙ log-append (o .log) block z (s .append))
+    (put o block z 28 (omega arith) ∙ log-kept (o .log) block z (s .kept)))
     (rw (after-state o block z) (state-small (o .log .state)))
+
+-- a flag that was put
+flag-put : {block : List ℕ} {place : ℕ} (b : Bool) → getD block place 0 ≡ pick b 1 0 → Flag block place b
+flag-put true e = record { small = ap (ltb 1) e; tells = ap (λ (k : ℕ). eqb k 1) e }
+flag-put false e = record { small = ap (ltb 1) e; tells = ap (λ (k : ℕ). eqb k 1) e }
+
+-- what a restart puts before the state
+module _ (l : Log) (block : List ℕ) (z : length block ≡ 44) where
+  abbrev s1 : List ℕ
+  s1 = at 0 (wordBytes 4 (l .geometry .p)) block
+
+  abbrev s2 : List ℕ
+  s2 = at 4 (wordBytes 4 (l .geometry .n)) s1
+
+  abbrev s3 : List ℕ
+  s3 = at 8 (wordBytes 4 (l .geometry .first)) s2
+
+  abbrev s4 : List ℕ
+  s4 = at 12 (flag (l .circular)) s3
+
+  abbrev s5 : List ℕ
+  s5 = at 13 (flag (l .read-client)) s4
+
+  abbrev s6 : List ℕ
+  s6 = at 14 (flag (l .append-client)) s5
+
+  w1 : length s1 ≡ 44
+  w1 = put-size block 0 (wordBytes 4 (l .geometry .p)) (omega arith) z
+
+  w2 : length s2 ≡ 44
+  w2 = put-size s1 4 (wordBytes 4 (l .geometry .n)) (omega arith) w1
+
+  w3 : length s3 ≡ 44
+  w3 = put-size s2 8 (wordBytes 4 (l .geometry .first)) (omega arith) w2
+
+  w4 : length s4 ≡ 44
+  w4 = put-size s3 12 _ (omega arith) w3
+
+  w5 : length s5 ≡ 44
+  w5 = put-size s4 13 _ (omega arith) w4
+
+  w6 : length s6 ≡ 44
+  w6 = put-size s5 14 _ (omega arith) w5
+
+  -- the bytes before each place, after all that is put from there on
+  sized-five : (n : ℕ) → n ≤ 14 → take n s6 ≡ take n s5
+  sized-five n h = put-front n s5 14 _ h (omega arith) w5
+
+  sized-four : (n : ℕ) → n ≤ 13 → take n s6 ≡ take n s4
+  sized-four n h = sized-five n (omega (arith, h)) ∙ put-front n s4 13 _ h (omega arith) w4
+
+  sized-three : (n : ℕ) → n ≤ 12 → take n s6 ≡ take n s3
+  sized-three n h = sized-four n (omega (arith, h)) ∙ put-front n s3 12 _ h (omega arith) w3
+
+  sized-two : (n : ℕ) → n ≤ 8 → take n s6 ≡ take n s2
+  sized-two n h = sized-three n (omega (arith, h)) ∙ put-front n s2 8 _ h (omega arith) w2
+
+  sized-one : (n : ℕ) → n ≤ 4 → take n s6 ≡ take n s1
+  sized-one n h = sized-two n (omega (arith, h)) ∙ put-front n s1 4 _ h (omega arith) w1
+
+  pub sized-front : l .geometry .p < 2 ^ 32 → l .geometry .n < 2 ^ 32 → l .geometry .first < 2 ^ 32
+      → Front (sized (l .geometry) (l .circular) (l .read-client) (l .append-client) block) l
+  unfolding sized
+  sized-front p n first =
+      record {
+        size = w6;
+        p = same-word 4 0 s6 s1 (sized-one 4 (omega arith)) (omega arith) (omega arith) w6 w1 ∙ put-word block 0 (l .geometry .p) p (omega arith) z;
+        n = same-word 8 4 s6 s2 (sized-two 8 (omega arith)) (omega arith) (omega arith) w6 w2 ∙ put-word s1 4 (l .geometry .n) n (omega arith) w1;
+        first = same-word 12 8 s6 s3 (sized-three 12 (omega arith)) (omega arith) (omega arith) w6 w3 ∙ put-word s2 8 (l .geometry .first) first (omega arith) w2;
+        circular = flag-put (l .circular) (same-byte 13 12 s6 s4 (sized-four 13 (omega arith)) (omega arith) ∙ byte-put s3 12 _ (omega arith) w3);
+        reads = flag-put (l .read-client) (same-byte 14 13 s6 s5 (sized-five 14 (omega arith)) (omega arith) ∙ byte-put s4 13 _ (omega arith) w4);
+        appends = flag-put (l .append-client) (byte-put s5 14 _ (omega arith) w5);
+      }

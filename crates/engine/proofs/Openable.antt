@@ -32,6 +32,7 @@ use Rattle.reading.specs.Read.{canceled, readEntry, readLength, readPlace, foun
 use Rattle.reading.specs.Seek.{sought, seekRefusal, seek}
 use Rattle.reading.specs.Deferred.{deferred}
 use Rattle.erasing.specs.Erase.{lastErased, reset, eraseStarts, erasesNext, eraseRuns, eraseChecks, eraseCall, EraseCompletes}
+use Rattle.engine.specs.Reached.{OneCall, appends, syncs, writes, reads, seeks, defers, erases, erased, Reached, restarts, calls}
 use Rattle.call.proofs.Gates.{shaped}
 use Rattle.call.proofs.Checks.{or-none}
 use Rattle.writing.proofs.AppendLaws.{accepted}
@@ -257,35 +258,21 @@ pub erase-keeps : {w : ℕ} {l : Log} {volume page hold : List ℕ} {good : Bool
 erase-keeps {w} {l} {volume} {page} {hold} {good} {word} a h =
     rw (a .answers) (unless-open (eraseChecks w l (length volume) (length page) (length hold)) l (eraseRuns w l good word) h (λ e. erase-open l good word))
 
--- the logs that a restart on any volume and any calls after it lead to, whatever the calls are lent and the driver says
-pub data Reached (w : ℕ) : Log → Type 0 where
-  restarts : {g : Geometry} {circular read-client append-client : Bool} {volume page hold : List ℕ} {l : Log} {page' : List ℕ}
-      → Restarts w g circular read-client append-client volume page hold (started l) page' → Reached w l
-  appends : {l : Log} {volume page hold bytes : List ℕ} {n : ℕ} {word : Word} {o : Outcome} {page' hold' : List ℕ}
-      → Reached w l → Appends w l volume page hold bytes n word o page' hold' → Reached w (o .log)
-  syncs : {l : Log} {volume page hold : List ℕ} {word : Word} {o : Outcome} {page' : List ℕ}
-      → Reached w l → Syncs w l volume page hold word o page' → Reached w (o .log)
-  writes : {l : Log} {volume page hold : List ℕ} {good : Bool} {o : Outcome} {page' : List ℕ}
-      → Reached w l → WriteCompletes w l volume page hold good o page' → Reached w (o .log)
-  reads : {l : Log} {volume page hold bytes : List ℕ} {n : ℕ} {o : Outcome} {bytes' : List ℕ}
-      → Reached w l → Reads w l volume page hold bytes n o bytes' → Reached w (o .log)
-  seeks : {l : Log} (volume page hold id : ℕ) → Reached w l → Reached w (seek w l volume page hold id .log)
-  defers : {l : Log} (volume page hold : ℕ) → Reached w l → Reached w (deferred w l volume page hold .log)
-  erases : {l : Log} (volume page hold : ℕ) (word : Word) → Reached w l → Reached w (eraseCall w l volume page hold word .log)
-  erased : {l : Log} {volume page hold : List ℕ} {good : Bool} {word : Word} {o : Outcome} {page' : List ℕ}
-      → Reached w l → EraseCompletes w l volume page hold good word o page' → Reached w (o .log)
+-- every call
+pub call-open : {w : ℕ} → Width w → {l : Log} {o : Outcome} → OneCall w l o → Openable w l → Openable w (o .log)
+call-open v (appends a) h = append-keeps v a h
+call-open v (syncs a) h = sync-keeps a h
+call-open v (writes a) h = write-keeps a h
+call-open v (reads a) h = read-keeps a h
+call-open v {l} (seeks volume page hold id e) h = rw e (seek-keeps l volume page hold id h)
+call-open v {l} (defers volume page hold e) h = rw e (deferred-keeps l volume page hold h)
+call-open v {l} (erases volume page hold word e) h = rw e (erase-call-keeps l volume page hold word h)
+call-open v (erased a) h = erase-keeps a h
 
--- each of them is openable
+-- each log that a restart and calls lead to is openable
 pub reached-open : {w : ℕ} → Width w → {l : Log} → Reached w l → Openable w l
 reached-open {w} v (restarts {g} {circular} {read-client} {append-client} {volume} {page} {hold} a) = restart-open w g circular read-client append-client volume page hold (sym (a .answers))
-reached-open v (appends r a) = append-keeps v a (reached-open v r)
-reached-open v (syncs r a) = sync-keeps a (reached-open v r)
-reached-open v (writes r a) = write-keeps a (reached-open v r)
-reached-open v (reads r a) = read-keeps a (reached-open v r)
-reached-open v (seeks {l} volume page hold id r) = seek-keeps l volume page hold id (reached-open v r)
-reached-open v (defers {l} volume page hold r) = deferred-keeps l volume page hold (reached-open v r)
-reached-open v (erases {l} volume page hold word r) = erase-call-keeps l volume page hold word (reached-open v r)
-reached-open v (erased r a) = erase-keeps a (reached-open v r)
+reached-open v (calls r c) = call-open v c (reached-open v r)
 
 -- so a write that went well in Append opens the next page and stores
 pub written-stored : {w : ℕ} {l : Log} → Openable w l → l .state ≡ Append → appendWritten w l ≡ stored w (opened w l) (l .kept)

@@ -1,0 +1,3 @@
+-- Lists of calls on a block.
+pub mod Same
+pub mod Blocks

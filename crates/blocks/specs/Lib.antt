@@ -1,0 +1,2 @@
+-- Lists of calls on a block.
+pub mod Reached

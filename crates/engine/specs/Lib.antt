@@ -1,0 +1,2 @@
+-- Lists of calls.
+pub mod Reached
