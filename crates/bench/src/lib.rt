@@ -1,1 +1,1 @@
-// The bench over the log and the flash: definitions and theorems about lists of events. A function that runs a list is to come.
+// The bench over the log and the flash: definitions and theorems about lists of events. The functions that run them stand in `stepping` and `running`.
