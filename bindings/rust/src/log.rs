@@ -71,7 +71,8 @@ pub trait LogWrite {
 }
 
 /// A log: its block, and its page and hold buffer, owned or borrowed (`[u8; P]`, `&mut [u8]` ..). Each has the length of a page;
-/// else every call that looks at it is refused as SHAPE: `seek`, `erase` and the deferred call look at neither, `read` not at the hold buffer.
+/// else every call that looks at it is refused as SHAPE. `seek`, `erase` and the deferred call look at neither, `read` not at
+/// the hold buffer.
 #[derive(Clone, Debug)]
 pub struct Log<B> {
     block: Block,
