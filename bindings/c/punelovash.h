@@ -18,6 +18,8 @@
  * without `const` overlaps nothing else that is lent in the same call. From one call to the next, block, page and hold stay as
  * the call before left them; only a restart may get others. Whatever bytes they hold, every call is safe and ends.
  *
+ * A call is lent what it looks at: seek, erase and the deferred call the block alone, and a read no hold buffer.
+ *
  * Answers
  * -------
  * A call returns its answer and leaves in the block the log, at most one report and at most one flash request: each call
@@ -31,7 +33,7 @@
  *     6 INVAL    as before    a length or a seek's ID that isn't allowed
  *     7 SIZE     as before    the entry is too long for a page or for a read's length; more page IDs than a survey has room for
  *     8 CANCEL   R = O        a read with R > A
- *     20 SHAPE   as before    sizes that aren't allowed, or a volume, page or hold of another length
+ *     20 SHAPE   as before    sizes that aren't allowed, or a volume, page or hold of another length where it is lent
  *     21 STATE   as before    the block holds no log: not 44 bytes, a flag above 1, a state above 5, or IDs or a length that are no log's
  *     22 STRAY   as before    a completion or a deferred call that isn't due
  *     23 LIMIT   as before    an append that needs a page at C
@@ -204,7 +206,6 @@ uint32_t punelovash_append(uint8_t *block, size_t block_length,
 uint32_t punelovash_read(uint8_t *block, size_t block_length,
                          const uint8_t *volume, size_t volume_length,
                          const uint8_t *page, size_t page_length,
-                         const uint8_t *hold, size_t hold_length,
                          uint8_t *buffer, size_t buffer_length,
                          size_t length);
 
@@ -213,11 +214,7 @@ uint32_t punelovash_read(uint8_t *block, size_t block_length,
  * Answers, in this order: SHAPE, STATE, BUSY; INVAL (not O <= entry_id <= A), RESERVE (no read client); then OK, state Seek;
  * punelovash_deferred_call reports seek_done(OK).
  */
-uint32_t punelovash_seek(uint8_t *block, size_t block_length,
-                         const uint8_t *volume, size_t volume_length,
-                         const uint8_t *page, size_t page_length,
-                         const uint8_t *hold, size_t hold_length,
-                         size_t entry_id);
+uint32_t punelovash_seek(uint8_t *block, size_t block_length, size_t entry_id);
 
 /*
  * Writes the page buffer to flash, so that what was appended outlasts a power cut.
@@ -239,11 +236,7 @@ uint32_t punelovash_sync(uint8_t *block, size_t block_length,
  * erase of O's page is requested; punelovash_erase_complete goes on.
  * The driver's refusal is the answer AND LEAVES STATE ERASE, with nothing under way: see (a) above.
  */
-uint32_t punelovash_erase(uint8_t *block, size_t block_length,
-                          const uint8_t *volume, size_t volume_length,
-                          const uint8_t *page, size_t page_length,
-                          const uint8_t *hold, size_t hold_length,
-                          uint8_t word);
+uint32_t punelovash_erase(uint8_t *block, size_t block_length, uint8_t word);
 
 /*
  * The write that was requested has ended: well, or it failed (good 0).
@@ -279,10 +272,7 @@ uint32_t punelovash_erase_complete(uint8_t *block, size_t block_length,
  * Ends a read or a seek: reports read_done(length, OK) or seek_done(OK), then Idle. In Idle it does nothing.
  * Answers SHAPE, STATE, STRAY (the state is Append, Sync or Erase) or OK.
  */
-uint32_t punelovash_deferred_call(uint8_t *block, size_t block_length,
-                                  const uint8_t *volume, size_t volume_length,
-                                  const uint8_t *page, size_t page_length,
-                                  const uint8_t *hold, size_t hold_length);
+uint32_t punelovash_deferred_call(uint8_t *block, size_t block_length);
 
 /*
  * Writes the ID of each page that the volume holds, the page's number times P, once to `ids`, which has room for ids_length

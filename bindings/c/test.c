@@ -181,15 +181,15 @@ static uint32_t append(struct bench *b, const uint8_t *data, size_t data_length,
 
 static uint32_t read_into(struct bench *b, uint8_t *buffer, size_t buffer_length, size_t length)
 {
-    uint32_t answer = punelovash_read(b->block, PUNELOVASH_BLOCK_SIZE, b->volume, volume_length(b), b->page, b->p, b->hold, b->p,
-        buffer, buffer_length, length);
+    uint32_t answer = punelovash_read(b->block, PUNELOVASH_BLOCK_SIZE, b->volume, volume_length(b), b->page, b->p, buffer,
+        buffer_length, length);
     check_bench(b);
     return answer;
 }
 
 static uint32_t seek(struct bench *b, size_t id)
 {
-    uint32_t answer = punelovash_seek(b->block, PUNELOVASH_BLOCK_SIZE, b->volume, volume_length(b), b->page, b->p, b->hold, b->p, id);
+    uint32_t answer = punelovash_seek(b->block, PUNELOVASH_BLOCK_SIZE, id);
     check_bench(b);
     return answer;
 }
@@ -204,7 +204,7 @@ static uint32_t sync_log(struct bench *b, uint8_t word)
 
 static uint32_t erase(struct bench *b, uint8_t word)
 {
-    uint32_t answer = punelovash_erase(b->block, PUNELOVASH_BLOCK_SIZE, b->volume, volume_length(b), b->page, b->p, b->hold, b->p, word);
+    uint32_t answer = punelovash_erase(b->block, PUNELOVASH_BLOCK_SIZE, word);
     check_bench(b);
     start(b, answer, word);
     return answer;
@@ -230,7 +230,7 @@ static uint32_t erase_complete(struct bench *b, uint8_t good, uint8_t word)
 
 static uint32_t deferred_call(struct bench *b)
 {
-    uint32_t answer = punelovash_deferred_call(b->block, PUNELOVASH_BLOCK_SIZE, b->volume, volume_length(b), b->page, b->p, b->hold, b->p);
+    uint32_t answer = punelovash_deferred_call(b->block, PUNELOVASH_BLOCK_SIZE);
     check_bench(b);
     return answer;
 }
@@ -784,6 +784,16 @@ static void driver_words(void)
         check_request(b, PUNELOVASH_NO_REQUEST, 0); \
     } while (0)
 
+/* other sizes in a block */
+static void put_sizes(uint8_t *block, uint32_t p, uint32_t n, uint32_t first)
+{
+    for (size_t k = 0; k < 4; k++) {
+        block[PUNELOVASH_AT_PAGE_SIZE + k] = (uint8_t)(p >> 8 * k);
+        block[PUNELOVASH_AT_PAGE_COUNT + k] = (uint8_t)(n >> 8 * k);
+        block[PUNELOVASH_AT_FIRST_PAGE + k] = (uint8_t)(first >> 8 * k);
+    }
+}
+
 static void refusals(void)
 {
     static struct entries all;
@@ -872,13 +882,9 @@ static void refusals(void)
     append_entry(&b, &all, 5);
 #define SHAPE_OF(vl, pl, hl) do { \
         REFUSED(&b, punelovash_append(b.block, 44, b.volume, vl, b.page, pl, b.hold, hl, ones, 5, 5, 0), PUNELOVASH_SHAPE); \
-        REFUSED(&b, punelovash_read(b.block, 44, b.volume, vl, b.page, pl, b.hold, hl, b.buffer, 32, 32), PUNELOVASH_SHAPE); \
-        REFUSED(&b, punelovash_seek(b.block, 44, b.volume, vl, b.page, pl, b.hold, hl, 4), PUNELOVASH_SHAPE); \
         REFUSED(&b, punelovash_sync(b.block, 44, b.volume, vl, b.page, pl, b.hold, hl, 0), PUNELOVASH_SHAPE); \
-        REFUSED(&b, punelovash_erase(b.block, 44, b.volume, vl, b.page, pl, b.hold, hl, 0), PUNELOVASH_SHAPE); \
         REFUSED(&b, punelovash_write_complete(b.block, 44, b.volume, vl, b.page, pl, b.hold, hl, 1), PUNELOVASH_SHAPE); \
         REFUSED(&b, punelovash_erase_complete(b.block, 44, b.volume, vl, b.page, pl, b.hold, hl, 1, 0), PUNELOVASH_SHAPE); \
-        REFUSED(&b, punelovash_deferred_call(b.block, 44, b.volume, vl, b.page, pl, b.hold, hl), PUNELOVASH_SHAPE); \
         REFUSED(&b, punelovash_restart(b.block, 44, 32, 4, 0, 1, 1, 1, b.volume, vl, b.page, pl, b.hold, hl), PUNELOVASH_SHAPE); \
         check_bench(&b); \
     } while (0)
@@ -888,7 +894,15 @@ static void refusals(void)
     SHAPE_OF(v, 0, 32);
     SHAPE_OF(v, 32, 31);
     SHAPE_OF(v, 32, 0);
+    /* a read is lent no hold buffer */
+#define SHAPE_OF_READ(vl, pl) REFUSED(&b, punelovash_read(b.block, 44, b.volume, vl, b.page, pl, b.buffer, 32, 32), PUNELOVASH_SHAPE)
+    SHAPE_OF_READ(v - 1, 32);
+    SHAPE_OF_READ(0, 32);
+    SHAPE_OF_READ(v, 31);
+    SHAPE_OF_READ(v, 0);
+    check_bench(&b);
     {
+        uint8_t good[PUNELOVASH_BLOCK_SIZE];
         static const struct { uint32_t p, n, first; } sizes[] = {
             { 0, 4, 0 }, { 8, 4, 0 }, { 15, 4, 0 }, { 24, 4, 0 }, { 8192, 4, 0 }, { 32, 0, 0 }, { 32, 4097, 0 }, { 32, 4, 16777216 },
             { 4294967295u, 4294967295u, 4294967295u }
@@ -898,6 +912,23 @@ static void refusals(void)
             REFUSED(&b, punelovash_restart(b.block, 44, sizes[k].p, sizes[k].n, sizes[k].first, 1, 1, 1, b.volume, length, b.page,
                 sizes[k].p <= 32 ? sizes[k].p : 32, b.hold, sizes[k].p <= 32 ? sizes[k].p : 32), PUNELOVASH_SHAPE);
         }
+        /* the calls that are lent the block alone: by the sizes in it, and with others that are allowed they pass */
+        memcpy(good, b.block, sizeof good);
+        for (size_t k = 0; k < sizeof sizes / sizeof sizes[0]; k++) {
+            put_sizes(b.block, sizes[k].p, sizes[k].n, sizes[k].first);
+            REFUSED(&b, seek(&b, 4), PUNELOVASH_SHAPE);
+            REFUSED(&b, erase(&b, 0), PUNELOVASH_SHAPE);
+            REFUSED(&b, deferred_call(&b), PUNELOVASH_SHAPE);
+            REFUSED(&b, read_into(&b, b.buffer, 32, 32), PUNELOVASH_SHAPE);
+            b.block[PUNELOVASH_AT_OLDEST] = 5;
+            REFUSED(&b, seek(&b, 4), PUNELOVASH_SHAPE); /* before STATE */
+            memcpy(b.block, good, sizeof good);
+        }
+        put_sizes(b.block, 4096, 4096, 16777215);
+        seek_done(&b, 4);
+        SAME(punelovash_erase(b.block, 44, PUNELOVASH_WORD_BUSY), PUNELOVASH_BUSY, "erase with the greatest sizes");
+        check_request(&b, PUNELOVASH_ERASE, 16777215);
+        memcpy(b.block, good, sizeof good);
     }
     reads_back(&b, &all, 0);
 
@@ -910,13 +941,13 @@ static void refusals(void)
         memcpy(good, b.block, sizeof good);
 #define NO_LOG(block_, length_) do { \
         SAME(punelovash_append(block_, length_, b.volume, v, b.page, 32, b.hold, 32, ones, 5, 5, 0), PUNELOVASH_STATE, "append"); \
-        SAME(punelovash_read(block_, length_, b.volume, v, b.page, 32, b.hold, 32, b.buffer, 32, 32), PUNELOVASH_STATE, "read"); \
-        SAME(punelovash_seek(block_, length_, b.volume, v, b.page, 32, b.hold, 32, 4), PUNELOVASH_STATE, "seek"); \
+        SAME(punelovash_read(block_, length_, b.volume, v, b.page, 32, b.buffer, 32, 32), PUNELOVASH_STATE, "read"); \
+        SAME(punelovash_seek(block_, length_, 4), PUNELOVASH_STATE, "seek"); \
         SAME(punelovash_sync(block_, length_, b.volume, v, b.page, 32, b.hold, 32, 0), PUNELOVASH_STATE, "sync"); \
-        SAME(punelovash_erase(block_, length_, b.volume, v, b.page, 32, b.hold, 32, 0), PUNELOVASH_STATE, "erase"); \
+        SAME(punelovash_erase(block_, length_, 0), PUNELOVASH_STATE, "erase"); \
         SAME(punelovash_write_complete(block_, length_, b.volume, v, b.page, 32, b.hold, 32, 1), PUNELOVASH_STATE, "write_complete"); \
         SAME(punelovash_erase_complete(block_, length_, b.volume, v, b.page, 32, b.hold, 32, 1, 0), PUNELOVASH_STATE, "erase_complete"); \
-        SAME(punelovash_deferred_call(block_, length_, b.volume, v, b.page, 32, b.hold, 32), PUNELOVASH_STATE, "deferred_call"); \
+        SAME(punelovash_deferred_call(block_, length_), PUNELOVASH_STATE, "deferred_call"); \
         SAME(punelovash_log_start(block_, length_), 0, "log_start"); \
         SAME(punelovash_log_end(block_, length_), 0, "log_end"); \
         SAME(punelovash_next_read_entry_id(block_, length_), 0, "next_read_entry_id"); \

@@ -43,23 +43,11 @@ mod library {
             volume_length: usize,
             page: *const u8,
             page_length: usize,
-            hold: *const u8,
-            hold_length: usize,
             buffer: *mut u8,
             buffer_length: usize,
             length: usize,
         ) -> u32;
-        pub fn punelovash_seek(
-            block: *mut u8,
-            block_length: usize,
-            volume: *const u8,
-            volume_length: usize,
-            page: *const u8,
-            page_length: usize,
-            hold: *const u8,
-            hold_length: usize,
-            entry_id: usize,
-        ) -> u32;
+        pub fn punelovash_seek(block: *mut u8, block_length: usize, entry_id: usize) -> u32;
         pub fn punelovash_sync(
             block: *mut u8,
             block_length: usize,
@@ -71,17 +59,7 @@ mod library {
             hold_length: usize,
             word: u8,
         ) -> u32;
-        pub fn punelovash_erase(
-            block: *mut u8,
-            block_length: usize,
-            volume: *const u8,
-            volume_length: usize,
-            page: *const u8,
-            page_length: usize,
-            hold: *const u8,
-            hold_length: usize,
-            word: u8,
-        ) -> u32;
+        pub fn punelovash_erase(block: *mut u8, block_length: usize, word: u8) -> u32;
         pub fn punelovash_write_complete(
             block: *mut u8,
             block_length: usize,
@@ -105,16 +83,7 @@ mod library {
             good: u8,
             word: u8,
         ) -> u32;
-        pub fn punelovash_deferred_call(
-            block: *mut u8,
-            block_length: usize,
-            volume: *const u8,
-            volume_length: usize,
-            page: *const u8,
-            page_length: usize,
-            hold: *const u8,
-            hold_length: usize,
-        ) -> u32;
+        pub fn punelovash_deferred_call(block: *mut u8, block_length: usize) -> u32;
     }
 }
 
@@ -243,8 +212,6 @@ impl Side for Rattle {
                 self.lent.len(),
                 self.page.as_ptr(),
                 self.page.len(),
-                self.hold.as_ptr(),
-                self.hold.len(),
                 self.buffer.as_mut_ptr(),
                 self.buffer.len(),
                 self.buffer.len(),
@@ -255,19 +222,8 @@ impl Side for Rattle {
 
     #[inline(always)]
     fn seek(&mut self, id: usize) {
-        let answer = unsafe {
-            library::punelovash_seek(
-                self.block.as_mut_ptr(),
-                self.block.len(),
-                self.lent.as_ptr(),
-                self.lent.len(),
-                self.page.as_ptr(),
-                self.page.len(),
-                self.hold.as_ptr(),
-                self.hold.len(),
-                id,
-            )
-        };
+        let answer =
+            unsafe { library::punelovash_seek(self.block.as_mut_ptr(), self.block.len(), id) };
         self.take(answer);
     }
 
@@ -291,19 +247,8 @@ impl Side for Rattle {
 
     #[inline(always)]
     fn erase(&mut self) {
-        let answer = unsafe {
-            library::punelovash_erase(
-                self.block.as_mut_ptr(),
-                self.block.len(),
-                self.lent.as_ptr(),
-                self.lent.len(),
-                self.page.as_ptr(),
-                self.page.len(),
-                self.hold.as_ptr(),
-                self.hold.len(),
-                OK,
-            )
-        };
+        let answer =
+            unsafe { library::punelovash_erase(self.block.as_mut_ptr(), self.block.len(), OK) };
         self.take(answer);
     }
 
@@ -347,18 +292,8 @@ impl Side for Rattle {
 
     #[inline(always)]
     fn deferred_call(&mut self) {
-        let answer = unsafe {
-            library::punelovash_deferred_call(
-                self.block.as_mut_ptr(),
-                self.block.len(),
-                self.lent.as_ptr(),
-                self.lent.len(),
-                self.page.as_ptr(),
-                self.page.len(),
-                self.hold.as_ptr(),
-                self.hold.len(),
-            )
-        };
+        let answer =
+            unsafe { library::punelovash_deferred_call(self.block.as_mut_ptr(), self.block.len()) };
         self.take(answer);
     }
 

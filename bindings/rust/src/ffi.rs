@@ -40,24 +40,12 @@ extern "C" {
         volume_length: usize,
         page: *const u8,
         page_length: usize,
-        hold: *const u8,
-        hold_length: usize,
         buffer: *mut u8,
         buffer_length: usize,
         length: usize,
     ) -> u32;
 
-    pub fn punelovash_seek(
-        block: *mut u8,
-        block_length: usize,
-        volume: *const u8,
-        volume_length: usize,
-        page: *const u8,
-        page_length: usize,
-        hold: *const u8,
-        hold_length: usize,
-        entry_id: usize,
-    ) -> u32;
+    pub fn punelovash_seek(block: *mut u8, block_length: usize, entry_id: usize) -> u32;
 
     pub fn punelovash_sync(
         block: *mut u8,
@@ -71,17 +59,7 @@ extern "C" {
         word: u8,
     ) -> u32;
 
-    pub fn punelovash_erase(
-        block: *mut u8,
-        block_length: usize,
-        volume: *const u8,
-        volume_length: usize,
-        page: *const u8,
-        page_length: usize,
-        hold: *const u8,
-        hold_length: usize,
-        word: u8,
-    ) -> u32;
+    pub fn punelovash_erase(block: *mut u8, block_length: usize, word: u8) -> u32;
 
     pub fn punelovash_write_complete(
         block: *mut u8,
@@ -108,16 +86,7 @@ extern "C" {
         word: u8,
     ) -> u32;
 
-    pub fn punelovash_deferred_call(
-        block: *mut u8,
-        block_length: usize,
-        volume: *const u8,
-        volume_length: usize,
-        page: *const u8,
-        page_length: usize,
-        hold: *const u8,
-        hold_length: usize,
-    ) -> u32;
+    pub fn punelovash_deferred_call(block: *mut u8, block_length: usize) -> u32;
 
     pub fn punelovash_survey(
         page_size: u32,

@@ -2,8 +2,8 @@
 //!
 //! The log is defined by "document 01"; `punelovash.h` says of each call what it answers and leaves. In short: a [`Log`] owns
 //! its state and has a page and a hold buffer of one flash page each. The volume, the log's flash as memory, is lent to each
-//! call, and only the flash driver writes it. Each call gives an [`Outcome`]: an answer, at most one [`Report`] and at most one
-//! [`Request`] to the flash.
+//! call that looks at it, and only the flash driver writes it. Each call gives an [`Outcome`]: an answer, at most one [`Report`]
+//! and at most one [`Request`] to the flash.
 //!
 //! ```
 //! use punelovash::{Answer, DriverWord, Geometry, Log, LogRead, LogWrite, Mode, Report, Request};
@@ -25,7 +25,7 @@
 //!
 //! let mut buffer = [0; 64];
 //! assert_eq!(log.read(&volume, &mut buffer, 64).answer, Answer::Ok);
-//! assert_eq!(log.deferred_call(&volume).report, Report::ReadDone { length: 5, result: Answer::Ok });
+//! assert_eq!(log.deferred_call().report, Report::ReadDone { length: 5, result: Answer::Ok });
 //! assert_eq!(&buffer[..5], b"hello");
 //! ```
 //!

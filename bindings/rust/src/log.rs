@@ -52,7 +52,7 @@ pub trait LogRead {
     fn next_read_entry_id(&self) -> EntryID;
 
     /// The next read is at `entry`. After OK the deferred call is due.
-    fn seek(&mut self, volume: &[u8], entry: EntryID) -> Outcome;
+    fn seek(&mut self, entry: EntryID) -> Outcome;
 
     /// The bytes of the volume without its page headers; 0 where there is no log.
     fn get_size(&self) -> usize;
@@ -67,11 +67,12 @@ pub trait LogWrite {
     fn sync(&mut self, volume: &[u8], word: DriverWord) -> Outcome;
 
     /// Erases the log, page by page. It is reported by the last erase's completion. A refusal leaves state Erase.
-    fn erase(&mut self, volume: &[u8], word: DriverWord) -> Outcome;
+    fn erase(&mut self, word: DriverWord) -> Outcome;
 }
 
 /// A log: its block, and its page and hold buffer, owned or borrowed (`[u8; P]`, `&mut [u8]` ..). Each has the length of a page;
-/// else every call is refused as SHAPE.
+/// else every call that looks at it is refused as SHAPE. `seek`, `erase` and the deferred call look at neither, `read` not at
+/// the hold buffer.
 #[derive(Clone, Debug)]
 pub struct Log<B> {
     block: Block,
@@ -194,22 +195,10 @@ impl<B: AsRef<[u8]> + AsMut<[u8]>> Log<B> {
     }
 
     /// Reports the read or the seek that was answered OK.
-    pub fn deferred_call(&mut self, volume: &[u8]) -> Outcome {
-        let page = self.page.as_ref();
-        let hold = self.hold.as_ref();
+    pub fn deferred_call(&mut self) -> Outcome {
         // SAFETY: as in `restart`.
-        let number = unsafe {
-            ffi::punelovash_deferred_call(
-                self.block.as_mut_ptr(),
-                self.block.len(),
-                volume.as_ptr(),
-                volume.len(),
-                page.as_ptr(),
-                page.len(),
-                hold.as_ptr(),
-                hold.len(),
-            )
-        };
+        let number =
+            unsafe { ffi::punelovash_deferred_call(self.block.as_mut_ptr(), self.block.len()) };
         block::outcome(&self.block, number)
     }
 
@@ -231,11 +220,11 @@ impl<B: AsRef<[u8]> + AsMut<[u8]>> Log<B> {
     }
 
     /// `erase`, where `start` asks the driver. Its refusal leaves state Erase with nothing under way.
-    pub fn erase_with<S>(&mut self, volume: &[u8], start: S) -> Outcome
+    pub fn erase_with<S>(&mut self, start: S) -> Outcome
     where
         S: FnOnce(Request, &[u8]) -> DriverWord,
     {
-        self.asking(start, |log, word| log.erase(volume, word))
+        self.asking(start, |log, word| log.erase(word))
     }
 
     /// `erase_complete`, where `start` asks the driver to start the next erase.
@@ -271,7 +260,6 @@ impl<B: AsRef<[u8]> + AsMut<[u8]>> Log<B> {
 impl<B: AsRef<[u8]> + AsMut<[u8]>> LogRead for Log<B> {
     fn read(&mut self, volume: &[u8], buffer: &mut [u8], length: usize) -> Outcome {
         let page = self.page.as_ref();
-        let hold = self.hold.as_ref();
         // SAFETY: as in `restart`.
         let number = unsafe {
             ffi::punelovash_read(
@@ -281,8 +269,6 @@ impl<B: AsRef<[u8]> + AsMut<[u8]>> LogRead for Log<B> {
                 volume.len(),
                 page.as_ptr(),
                 page.len(),
-                hold.as_ptr(),
-                hold.len(),
                 buffer.as_mut_ptr(),
                 buffer.len(),
                 length,
@@ -308,23 +294,10 @@ impl<B: AsRef<[u8]> + AsMut<[u8]>> LogRead for Log<B> {
         })
     }
 
-    fn seek(&mut self, volume: &[u8], entry: EntryID) -> Outcome {
-        let page = self.page.as_ref();
-        let hold = self.hold.as_ref();
+    fn seek(&mut self, entry: EntryID) -> Outcome {
         // SAFETY: as in `restart`.
-        let number = unsafe {
-            ffi::punelovash_seek(
-                self.block.as_mut_ptr(),
-                self.block.len(),
-                volume.as_ptr(),
-                volume.len(),
-                page.as_ptr(),
-                page.len(),
-                hold.as_ptr(),
-                hold.len(),
-                entry.0,
-            )
-        };
+        let number =
+            unsafe { ffi::punelovash_seek(self.block.as_mut_ptr(), self.block.len(), entry.0) };
         block::outcome(&self.block, number)
     }
 
@@ -378,22 +351,10 @@ impl<B: AsRef<[u8]> + AsMut<[u8]>> LogWrite for Log<B> {
         block::outcome(&self.block, number)
     }
 
-    fn erase(&mut self, volume: &[u8], word: DriverWord) -> Outcome {
-        let page = self.page.as_ref();
-        let hold = self.hold.as_ref();
+    fn erase(&mut self, word: DriverWord) -> Outcome {
         // SAFETY: as in `restart`.
         let number = unsafe {
-            ffi::punelovash_erase(
-                self.block.as_mut_ptr(),
-                self.block.len(),
-                volume.as_ptr(),
-                volume.len(),
-                page.as_ptr(),
-                page.len(),
-                hold.as_ptr(),
-                hold.len(),
-                word.number(),
-            )
+            ffi::punelovash_erase(self.block.as_mut_ptr(), self.block.len(), word.number())
         };
         block::outcome(&self.block, number)
     }

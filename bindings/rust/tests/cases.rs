@@ -85,7 +85,7 @@ fn read(log: &mut Array, flash: &Flash) -> Result<Vec<u8>, Answer> {
     }
     assert_eq!(log.state(), Some(State::Read));
     let length = log.kept_length();
-    let report = log.deferred_call(&flash.volume).report;
+    let report = log.deferred_call().report;
     let result = Answer::Ok;
     assert_eq!(report, Report::ReadDone { length, result });
     assert!(buffer[length..].iter().all(|byte| *byte == 0xAA));
@@ -203,7 +203,7 @@ fn an_erase_ends_in_an_empty_log() {
     for k in 0..9 {
         append(&mut log, &mut flash, &[k; 20]);
     }
-    let mut got = log.erase(&flash.volume, OK);
+    let mut got = log.erase(OK);
     assert_eq!(got.answer, Answer::Ok);
     while got.report == Report::Nothing {
         assert_eq!(log.state(), Some(State::Erase));
@@ -231,16 +231,16 @@ fn seek_limits() {
         (24, Answer::Inval),
         (usize::MAX, Answer::Inval),
     ] {
-        let got = log.seek(&flash.volume, EntryID(id));
+        let got = log.seek(EntryID(id));
         assert_eq!(got, nothing(answer), "seek to {id}");
-        let due = log.deferred_call(&flash.volume).report;
+        let due = log.deferred_call().report;
         let sought = answer == Answer::Ok;
         assert_eq!(due == Report::SeekDone(Answer::Ok), sought);
     }
-    assert_eq!(log.seek(&flash.volume, EntryID(13)).answer, Answer::Ok);
-    let got = log.seek(&flash.volume, EntryID(13));
+    assert_eq!(log.seek(EntryID(13)).answer, Answer::Ok);
+    let got = log.seek(EntryID(13));
     assert_eq!(got, nothing(Answer::Busy));
-    let _ = log.deferred_call(&flash.volume);
+    let _ = log.deferred_call();
     assert_eq!(read_all(&mut log, &flash), [vec![2; 6]]);
 }
 
@@ -286,8 +286,8 @@ fn clients_that_are_not_set() {
     let (mut log, flash) = fresh(mode);
     let volume = &flash.volume;
     assert_eq!(log.append(volume, &ONES, 1, OK), nothing(Answer::Reserve));
-    assert_eq!(log.erase(volume, OK), nothing(Answer::Reserve));
-    assert_eq!(log.seek(volume, EntryID(4)), nothing(Answer::Reserve));
+    assert_eq!(log.erase(OK), nothing(Answer::Reserve));
+    assert_eq!(log.seek(EntryID(4)), nothing(Answer::Reserve));
     let got = log.read(volume, &mut [0; 32], 32);
     assert_eq!(got, nothing(Answer::Reserve));
 }
@@ -299,13 +299,13 @@ fn calls_that_are_not_due_and_a_busy_log() {
     let volume = &flash.volume;
     assert_eq!(log.write_complete(volume, true), nothing(Answer::Stray));
     assert_eq!(log.erase_complete(volume, true, OK), nothing(Answer::Stray));
-    assert_eq!(log.deferred_call(volume), nothing(Answer::Ok));
+    assert_eq!(log.deferred_call(), nothing(Answer::Ok));
     assert_eq!(log.sync(volume, OK).answer, Answer::Ok);
     assert_eq!(log.append(volume, &ONES, 1, OK), nothing(Answer::Busy));
     assert_eq!(log.sync(volume, OK), nothing(Answer::Busy));
-    assert_eq!(log.erase(volume, OK), nothing(Answer::Busy));
+    assert_eq!(log.erase(OK), nothing(Answer::Busy));
     assert_eq!(log.read(volume, &mut [0; 32], 32), nothing(Answer::Busy));
-    assert_eq!(log.deferred_call(volume), nothing(Answer::Stray));
+    assert_eq!(log.deferred_call(), nothing(Answer::Stray));
     assert_eq!(log.erase_complete(volume, true, OK), nothing(Answer::Stray));
 }
 
@@ -315,7 +315,7 @@ fn no_log_before_a_restart() {
     let mut log = Log::new([0; 32], [0; 32]);
     assert_eq!(log.append(&volume, &ONES, 1, OK), nothing(Answer::Shape));
     assert_eq!(log.sync(&volume, OK), nothing(Answer::Shape));
-    assert_eq!(log.deferred_call(&volume), nothing(Answer::Shape));
+    assert_eq!(log.deferred_call(), nothing(Answer::Shape));
     assert_eq!(ids(&log), (0, 0, 0));
     assert_eq!(log.get_size(), 0);
     assert_eq!(log.block(), &[0; BLOCK_SIZE]);
@@ -362,7 +362,7 @@ fn a_block_that_holds_no_log() {
         block[35] = 1;
         let mut log = Log::from_parts(block, [0; 32], [0; 32]);
         assert_eq!(log.append(&volume, &ONES, 1, OK), nothing(Answer::State));
-        assert_eq!(log.erase(&volume, OK), nothing(Answer::State));
+        assert_eq!(log.erase(OK), nothing(Answer::State));
         let start = |_: Request, _: &[u8]| panic!("nothing is requested");
         assert_eq!(log.sync_with(&volume, start), nothing(Answer::State));
         assert_eq!(log.block(), &block);
@@ -407,11 +407,11 @@ fn a_driver_that_refuses() {
 
         // a refused erase stays in Erase ..
         let mut stuck = log.clone();
-        let got = stuck.erase_with(&flash.volume, |_, _| word);
+        let got = stuck.erase_with(|_, _| word);
         assert_eq!(got.answer, answer);
         assert_eq!(stuck.state(), Some(State::Erase));
         // .. and as an operation that failed it doesn't
-        assert_eq!(log.erase(&flash.volume, OK).answer, Answer::Ok);
+        assert_eq!(log.erase(OK).answer, Answer::Ok);
         let got = log.erase_complete(&flash.volume, false, OK);
         assert_eq!(got.report, Report::EraseDone(Answer::Fail));
         assert_eq!(log.state(), Some(State::Idle));

@@ -41,6 +41,21 @@ fn put(block: &mut [u8], at: usize, number: u32) {
     block[at..at + 4].copy_from_slice(&number.to_le_bytes());
 }
 
+fn number(block: &[u8], at: usize) -> usize {
+    u32::from_le_bytes(block[at..at + 4].try_into().unwrap()) as usize
+}
+
+/// Flags and a state that a log can have, so that there are sizes to look at.
+fn holds_log(block: &[u8]) -> bool {
+    block[12..15].iter().all(|flag| *flag <= 1) && block[15] <= 5
+}
+
+fn sizes_fit(block: &[u8]) -> bool {
+    let (p, n) = (number(block, 0), number(block, 4));
+    let pages = (1..=4096).contains(&n) && number(block, 8) <= 16_777_215;
+    (16..=4096).contains(&p) && p.is_power_of_two() && pages
+}
+
 /// A block of any bytes, or one that is nearly a log's.
 fn block(random: &mut Random, p: usize, n: usize) -> [u8; BLOCK_SIZE] {
     let mut block: [u8; BLOCK_SIZE] = random.bytes(BLOCK_SIZE).try_into().unwrap();
@@ -128,12 +143,12 @@ fn any_bytes_are_answered_by_the_table() {
         let got = match call {
             0 => log.append(&volume, &buffer, size, word),
             1 => log.read(&volume, buffers.bytes(), size),
-            2 => log.seek(&volume, EntryID(id)),
+            2 => log.seek(EntryID(id)),
             3 => log.sync(&volume, word),
-            4 => log.erase(&volume, word),
+            4 => log.erase(word),
             5 => log.write_complete(&volume, good),
             6 => log.erase_complete(&volume, good, word),
-            7 => log.deferred_call(&volume),
+            7 => log.deferred_call(),
             _ => log.restart(sizes, Mode::default(), &volume),
         };
         let _ = (log.state(), log.get_size(), log.log_start(), log.log_end());
@@ -144,8 +159,19 @@ fn any_bytes_are_answered_by_the_table() {
         *met.entry((call, got.answer.number())).or_default() += 1;
         assert!(!matches!(got.answer, Answer::Other(_)), "{got:?}");
 
-        // sizes, mode and clients are a restart's to set
+        // SHAPE looks at the sizes, and at the lengths of what the call is lent
         if call != 8 {
+            let (p, n) = (number(&before, 0), number(&before, 4));
+            let fits = [lengths[0] == n * p, lengths[1] == p, lengths[2] == p];
+            let lent = match call {
+                2 | 4 | 7 => &fits[..0],
+                1 => &fits[..2],
+                _ => &fits[..],
+            };
+            let fit = sizes_fit(&before) && lent.iter().all(|fits| *fits);
+            let shape = holds_log(&before) && !fit;
+            assert_eq!(got.answer == Answer::Shape, shape, "call {call}: {got:?}");
+            // sizes, mode and clients are a restart's to set
             assert_eq!(after[..15], before[..15]);
         }
         let said = match word {

@@ -169,12 +169,12 @@ impl Run {
         let word = self.word();
         let want = self.model.erase(word);
         let got = if self.random.one_in(2) {
-            let Flash { volume, driver } = &mut self.flash;
+            let driver = &mut self.flash.driver;
             driver.word = word;
             self.log
-                .erase_with(volume, |request, page| driver.start(request, page))
+                .erase_with(|request, page| driver.start(request, page))
         } else {
-            let got = self.log.erase(&self.flash.volume, word);
+            let got = self.log.erase(word);
             self.start(got, word);
             got
         };
@@ -257,13 +257,13 @@ impl Run {
             _ => self.random.pick(&ids),
         };
         let want = self.model.seek(id);
-        let got = self.log.seek(&self.flash.volume, EntryID(id));
+        let got = self.log.seek(EntryID(id));
         self.agree("seek", got, want);
     }
 
     fn deferred_call(&mut self) {
         let want = self.model.deferred_call();
-        let got = self.log.deferred_call(&self.flash.volume);
+        let got = self.log.deferred_call();
         self.agree("deferred_call", got, want);
     }
 

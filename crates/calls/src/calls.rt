@@ -67,14 +67,7 @@ fn written(names: &[u8], k: usize, log: Log, good: bool) -> Log {
 }
 
 fn erase(names: &[u8], k: usize, log: Log, word: Driver) -> Log {
-    let volume = [255u8; 128];
-    let page = [0u8; 32];
-    let hold = [0u8; 32];
-    outcome::line(
-        names,
-        k,
-        erasing::erase::erase(log, &volume, &page, &hold, word),
-    )
+    outcome::line(names, k, erasing::erase::erase(log, 128, 32, 32, word))
 }
 
 fn erased(names: &[u8], k: usize, log: Log, good: bool, word: Driver) -> Log {
@@ -89,24 +82,14 @@ fn erased(names: &[u8], k: usize, log: Log, good: bool, word: Driver) -> Log {
 }
 
 pub(crate) fn seek(names: &[u8], k: usize, log: Log, id: usize) -> Log {
-    let volume = [255u8; 128];
-    let page = [0u8; 32];
-    let hold = [0u8; 32];
-    outcome::line(
-        names,
-        k,
-        reading::seek::seek(log, &volume, &page, &hold, EntryID(id)),
-    )
+    outcome::line(names, k, reading::seek::seek(log, 128, 32, 32, EntryID(id)))
 }
 
 pub(crate) fn deferred(names: &[u8], k: usize, log: Log) -> Log {
-    let volume = [255u8; 128];
-    let page = [0u8; 32];
-    let hold = [0u8; 32];
     outcome::line(
         names,
         k,
-        reading::deferred::handle_deferred_call(log, &volume, &page, &hold),
+        reading::deferred::handle_deferred_call(log, 128, 32, 32),
     )
 }
 

@@ -1,9 +1,10 @@
 -- Laws of a block: bytes put at their places, and what is loaded from it.
-use Prim.Native.Nat.{ℕ, _+_, _*_, _/_, _%_, _≤_}
+use Prim.Native.Nat.{ℕ, _+_, _*_, _/_, _%_, _≤_, _<_, _^_}
 use mathlib.Core.Path.{_≡_, refl, sym, ap, _∙_}
 use mathlib.Core.Bool.{Bool, true, false}
 use mathlib.Core.List.{List, [], _∷_}
 use mathlib.Core.Option.{Option, none, some, Option·none-ne-some}
+use native.Mathlib.Nat.{mul-le-mul-right}
 use native.Mathlib.Omega.{arith}
 use lib.Dec.{eqb}
 use borrow.Author.Tests.{eqb-true}
@@ -43,6 +44,10 @@ word-low n =
     let g : n / 256 / 256 ≡ 256 * (256 * q) + m / 256 / 256 = omega (arith, high-bytes (n / 256) (m / 256) (65536 * q) f) in
     let h = high-bytes (n / 256 / 256) (m / 256 / 256) (256 * q) g in
     rw (low-byte n m _ e, low-byte (n / 256) (m / 256) _ f, low-byte (n / 256 / 256) (m / 256 / 256) _ g, low-byte (n / 256 / 256 / 256) (m / 256 / 256 / 256) _ h)
+
+-- a product of two words fits 64 bits
+pub product-fits : (n p : ℕ) → n < 2 ^ 32 → p < 2 ^ 32 → n * p < 2 ^ 64
+product-fits n p h k = let most : n ≤ 4294967295 = omega (arith, h) in omega (arith, k, mul-le-mul-right p most)
 
 -- a log, a report, a request and a log's sizes, byte by byte
 pub puts-log : (l : Log) (b0 : List ℕ) {k : ℕ} {b1 b2 b3 b4 b5 : List ℕ}

@@ -12,7 +12,7 @@ use borrow.Author.Tests.{eq-eqb, eqb-true, le-ltb}
 use Rattle.page.specs.Pick.{pick}
 use Rattle.page.specs.Word.{le, wordAt, wordBytes}
 use Rattle.page.proofs.Overwrites.{length-overwrite, overwrite-before, window-left}
-use Rattle.page.proofs.Words.{wordAt-written}
+use Rattle.page.proofs.Words.{wordAt-four, wordAt-written}
 use Rattle.log.specs.Answer.{Report, Request}
 use Rattle.log.specs.Log.{State, Idle, Read, Seek, Append, Sync, Erase, Geometry, Log, stateNumber}
 use Rattle.call.specs.Outcome.{Outcome}
@@ -206,6 +206,12 @@ front block {l} e =
       reads = record { small = c .0; tells = ap (λ (k : Log). k .read-client) log };
       appends = record { small = d .0; tells = ap (λ (k : Log). k .append-client) log };
     }
+
+-- the sizes of a log in a block are words
+pub loaded-words : (block : List ℕ) {l : Log} → ((i : ℕ) → getD block i 0 < 256) → loaded block ≡ some l → (l .geometry .p < 2 ^ 32) × (l .geometry .n < 2 ^ 32)
+loaded-words block b e =
+    let f = front block e in
+    (omega (arith, f .p, f .size, wordAt-four block 0 (omega (arith, f .size)), b 0, b 1, b 2, b 3), omega (arith, f .n, f .size, wordAt-four block 4 (omega (arith, f .size)), b 4, b 5, b 6, b 7))
 
 -- the other way
 loads : (block : List ℕ) {l : Log} → Front block l → logAt block ≡ l → getD block 15 0 ≤ 5 → loaded block ≡ some l

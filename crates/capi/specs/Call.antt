@@ -1,5 +1,5 @@
 -- What a function on a block does: a block that holds no log is refused by STATE, and nothing changes; else the call runs on the log, and the block takes what it gave.
-use Prim.Native.Nat.{ℕ}
+use Prim.Native.Nat.{ℕ, _*_}
 use mathlib.Core.Path.{_≡_}
 use mathlib.Core.Bool.{Bool}
 use mathlib.Core.List.{List}
@@ -18,6 +18,10 @@ use Rattle.capi.specs.Block.{blockSize, loaded, saved, sized}
 pub data Calls (block block' : List ℕ) (a : ℕ) (untouched : Type 0) (does : Log → Outcome → Type 0) : Type 0 where
   no-log : loaded block ≡ none → a ≡ STATE → block' ≡ block → untouched → Calls block block' a untouched does
   runs : {l : Log} {o : Outcome} → loaded block ≡ some l → a ≡ o .answer → block' ≡ saved o block → does l o → Calls block block' a untouched does
+
+-- a call that reads no byte of the volume, the page buffer or the hold buffer is not lent them: SHAPE then looks at the sizes alone, as if the volume had L = N × P bytes and each buffer P
+abbrev pub volumeLength : Log → ℕ
+volumeLength l = l .geometry .n * l .geometry .p
 
 -- a restart makes a block of 44 bytes a log's; one of another length is refused by STATE
 abbrev pub restarted : Log → Outcome

@@ -1,7 +1,7 @@
 // The block that a caller lends: 44 bytes with the log and what the last call gave.
 ghost use mathlib.Core.Path.{_≡_};
 ghost use mathlib.Core.List.{[], _∷_};
-ghost use Prim.Native.Nat.{_+_, _≤_};
+ghost use Prim.Native.Nat.{_+_, _≤_, _<_, _^_};
 ghost use lib.ListN.{length};
 ghost use Rattle.page.specs.Word.{wordAt, wordBytes};
 ghost use Rattle.page.specs.Bytes.{overwrite};
@@ -9,6 +9,7 @@ ghost use Rattle.log.specs.Answer.{reportOf, requestOf};
 ghost use Rattle.log.specs.Log.{geometryOf, logOf};
 ghost use Rattle.call.specs.Outcome.{outcomeOf};
 ghost use Rattle.capi.specs.Block.{logAt, loadedOf, loaded, withLog, withReport, withRequest, saved, sized};
+ghost use Rattle.capi.specs.Call.{volumeLength};
 use crate::numbers;
 use call::outcome::Outcome;
 use log::answer;
@@ -99,6 +100,14 @@ pub(crate) fn load(block: &[u8]) -> Loaded
         return Loaded::Bad;
     }
     Loaded::Log(log_at(block))
+}
+
+// L by a log's own sizes, which are words.
+pub(crate) fn volume_length(log: Log) -> usize
+    requires { ⌜ (log .geometry .«page_size» < 2 ^ 32) × (log .geometry .«page_count» < 2 ^ 32) ⌝ }
+    ensures { λ r. ⌜ r ≡ volumeLength (logOf log) ⌝ }
+{
+    log.geometry.page_count * log.geometry.page_size
 }
 
 fn save_log(log: Log, block: &mut [u8])

@@ -2,7 +2,6 @@
 ghost use mathlib.Core.Path.{_≡_};
 ghost use mathlib.Core.Bool.{not};
 ghost use lib.Dec.{eqb};
-ghost use lib.ListN as lists;
 ghost use Rattle.log.specs.Log.{Log};
 ghost use Rattle.call.specs.Outcome.{Outcome};
 ghost use Rattle.writing.specs.Append.{Appends};
@@ -13,7 +12,7 @@ ghost use Rattle.reading.specs.Seek as seeking;
 ghost use Rattle.reading.specs.Deferred as deferring;
 ghost use Rattle.erasing.specs.Erase.{eraseCall, EraseCompletes};
 ghost use Rattle.capi.specs.Block.{wordFrom};
-ghost use Rattle.capi.specs.Call.{Calls};
+ghost use Rattle.capi.specs.Call.{volumeLength, Calls};
 use crate::block;
 use crate::block::Loaded;
 use crate::numbers;
@@ -45,42 +44,37 @@ pub extern "C" fn punelovash_append(
     }
 }
 
-// Reads the next entry, of at most `length` bytes, into `buffer`.
+// Reads the next entry, of at most `length` bytes, into `buffer`. Of the hold buffer a read looks at the length alone, which has to be the page buffer's: the page buffer stands in for it.
 #[no_mangle]
 pub extern "C" fn punelovash_read<'a>(
     block: &mut [u8],
     volume: &'a [u8],
     page: &'a [u8],
-    hold: &[u8],
     buffer: &mut [u8],
     length: usize,
 ) -> u32
-    ensures { λ r. ⌜ Calls (now (block .entry)) (now (block .exit)) r (now (buffer .exit) ≡ now (buffer .entry)) (λ (l : Log) (o : Outcome). Reads 4 l (now (volume .entry)) (now (page .entry)) (now (hold .entry)) (now (buffer .entry)) length o (now (buffer .exit))) ⌝ }
+    ensures { λ r. ⌜ Calls (now (block .entry)) (now (block .exit)) r (now (buffer .exit) ≡ now (buffer .entry)) (λ (l : Log) (o : Outcome). Reads 4 l (now (volume .entry)) (now (page .entry)) (now (page .entry)) (now (buffer .entry)) length o (now (buffer .exit))) ⌝ }
 {
     match block::load(block) {
         Loaded::Bad => STATE,
         Loaded::Log(log) => {
-            let given = reading::read::read(log, volume, page, hold, buffer, length);
+            let given = reading::read::read(log, volume, page, page, buffer, length);
             block::save(given, block)
         }
     }
 }
 
-// The next entry to read is the one at `entry_id`.
+// The next entry to read is the one at `entry_id`. Only sizes are looked at, so that nothing but the block is lent.
 #[no_mangle]
-pub extern "C" fn punelovash_seek(
-    block: &mut [u8],
-    volume: &[u8],
-    page: &[u8],
-    hold: &[u8],
-    entry_id: usize,
-) -> u32
-    ensures { λ r. ⌜ Calls (now (block .entry)) (now (block .exit)) r (Unit {0}) (λ (l : Log) (o : Outcome). o ≡ seeking.seek 4 l (lists.length (now (volume .entry))) (lists.length (now (page .entry))) (lists.length (now (hold .entry))) «entry_id») ⌝ }
+pub extern "C" fn punelovash_seek(block: &mut [u8], entry_id: usize) -> u32
+    ensures { λ r. ⌜ Calls (now (block .entry)) (now (block .exit)) r (Unit {0}) (λ (l : Log) (o : Outcome). o ≡ seeking.seek 4 l (volumeLength l) (l .geometry .p) (l .geometry .p) «entry_id») ⌝ }
 {
     match block::load(block) {
         Loaded::Bad => STATE,
         Loaded::Log(log) => {
-            let given = reading::seek::seek(log, volume, page, hold, EntryID(entry_id));
+            let p = log.geometry.page_size;
+            let volume_len = block::volume_length(log);
+            let given = reading::seek::seek(log, volume_len, p, p, EntryID(entry_id));
             block::save(given, block)
         }
     }
@@ -107,22 +101,18 @@ pub extern "C" fn punelovash_sync(
     }
 }
 
-// Erases the log.
+// Erases the log. Only sizes are looked at, so that nothing but the block is lent.
 #[no_mangle]
-pub extern "C" fn punelovash_erase(
-    block: &mut [u8],
-    volume: &[u8],
-    page: &[u8],
-    hold: &[u8],
-    word: u8,
-) -> u32
-    ensures { λ r. ⌜ Calls (now (block .entry)) (now (block .exit)) r (Unit {0}) (λ (l : Log) (o : Outcome). o ≡ eraseCall 4 l (lists.length (now (volume .entry))) (lists.length (now (page .entry))) (lists.length (now (hold .entry))) (wordFrom word)) ⌝ }
+pub extern "C" fn punelovash_erase(block: &mut [u8], word: u8) -> u32
+    ensures { λ r. ⌜ Calls (now (block .entry)) (now (block .exit)) r (Unit {0}) (λ (l : Log) (o : Outcome). o ≡ eraseCall 4 l (volumeLength l) (l .geometry .p) (l .geometry .p) (wordFrom word)) ⌝ }
 {
     match block::load(block) {
         Loaded::Bad => STATE,
         Loaded::Log(log) => {
             let said = numbers::word_from(word);
-            let given = erasing::erase::erase(log, volume, page, hold, said);
+            let p = log.geometry.page_size;
+            let volume_len = block::volume_length(log);
+            let given = erasing::erase::erase(log, volume_len, p, p, said);
             block::save(given, block)
         }
     }
@@ -176,20 +166,17 @@ pub extern "C" fn punelovash_erase_complete(
     }
 }
 
-// The deferred call, which reports a read or a seek.
+// The deferred call, which reports a read or a seek. Only sizes are looked at, so that nothing but the block is lent.
 #[no_mangle]
-pub extern "C" fn punelovash_deferred_call(
-    block: &mut [u8],
-    volume: &[u8],
-    page: &[u8],
-    hold: &[u8],
-) -> u32
-    ensures { λ r. ⌜ Calls (now (block .entry)) (now (block .exit)) r (Unit {0}) (λ (l : Log) (o : Outcome). o ≡ deferring.deferred 4 l (lists.length (now (volume .entry))) (lists.length (now (page .entry))) (lists.length (now (hold .entry)))) ⌝ }
+pub extern "C" fn punelovash_deferred_call(block: &mut [u8]) -> u32
+    ensures { λ r. ⌜ Calls (now (block .entry)) (now (block .exit)) r (Unit {0}) (λ (l : Log) (o : Outcome). o ≡ deferring.deferred 4 l (volumeLength l) (l .geometry .p) (l .geometry .p)) ⌝ }
 {
     match block::load(block) {
         Loaded::Bad => STATE,
         Loaded::Log(log) => {
-            let given = reading::deferred::handle_deferred_call(log, volume, page, hold);
+            let p = log.geometry.page_size;
+            let volume_len = block::volume_length(log);
+            let given = reading::deferred::handle_deferred_call(log, volume_len, p, p);
             block::save(given, block)
         }
     }

@@ -40,7 +40,7 @@ fn read_next<'a>(log: Log, volume: &'a [u8], page: &'a [u8], hold: &[u8], out: &
     let read = given.log;
     let size = read.length;
     word::write_word(out, 0, size as u32);
-    let after = reading::deferred::handle_deferred_call(read, volume, page, hold);
+    let after = reading::deferred::handle_deferred_call(read, volume.len(), page.len(), hold.len());
     let next = after.log;
     Next::Entry(next, size)
 }

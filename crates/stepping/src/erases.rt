@@ -33,7 +33,7 @@ fn erase(
     ensures { λ r. ⌜ stepOf «first_page» r (now (page .entry)) (now (hold .entry)) (now (volume .entry)) ≡ delivered «first_page» (worldOf world (now (page .entry)) (now (hold .entry)) (now (volume .entry))) unended (erases 4 (worldOf world (now (page .entry)) (now (hold .entry)) (now (volume .entry))) (wordOf word)) (wordOf word) ⌝ }
 {
     let log = world.log;
-    let given = erasing::erase::erase(log, volume, page, hold, word);
+    let given = erasing::erase::erase(log, volume.len(), page.len(), hold.len(), word);
     world::delivered(world, Ended::Nothing, given, word, first_page)
 }
 

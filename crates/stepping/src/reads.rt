@@ -44,7 +44,7 @@ fn seek(
     ensures { λ r. ⌜ stepOf «first_page» r (now (page .entry)) (now (hold .entry)) (now (volume .entry)) ≡ delivered «first_page» (worldOf world (now (page .entry)) (now (hold .entry)) (now (volume .entry))) unended (seeks 4 (worldOf world (now (page .entry)) (now (hold .entry)) (now (volume .entry))) («entry_id» .0)) ok ⌝ }
 {
     let log = world.log;
-    let given = reading::seek::seek(log, volume, page, hold, entry_id);
+    let given = reading::seek::seek(log, volume.len(), page.len(), hold.len(), entry_id);
     world::delivered(world, Ended::Nothing, given, Driver::OK, first_page)
 }
 
@@ -52,7 +52,7 @@ fn deferred(first_page: usize, world: World, volume: &[u8], page: &[u8], hold: &
     ensures { λ r. ⌜ stepOf «first_page» r (now (page .entry)) (now (hold .entry)) (now (volume .entry)) ≡ delivered «first_page» (worldOf world (now (page .entry)) (now (hold .entry)) (now (volume .entry))) unended (defers 4 (worldOf world (now (page .entry)) (now (hold .entry)) (now (volume .entry)))) ok ⌝ }
 {
     let log = world.log;
-    let given = reading::deferred::handle_deferred_call(log, volume, page, hold);
+    let given = reading::deferred::handle_deferred_call(log, volume.len(), page.len(), hold.len());
     world::delivered(world, Ended::Nothing, given, Driver::OK, first_page)
 }
 

@@ -20,7 +20,7 @@ read-requires c κs = search needs
 
 save-requires : tie.Need-save-requires
 save-requires c κs =
-    let a = c .before .before .before .before .before .before .before .before .before .before .before .before .before .before .before .args in
+    let a = c .before .before .before .before .before .before .before .before .before .before .before .before .before .before .args in
     loaded-size (a .block .now) (holds (a .block .now) (c .before .before .before .before .before .before .before .before .load .ensures) (c .before .before .before .before .before .before .log .given .1))
 
 same-length : tie.Need-same-length
@@ -28,7 +28,7 @@ same-length c = search needs
 
 returns : tie.Need-returns
 returns c =
-    let a = c .before .before .before .before .before .before .before .before .before .args in
+    let a = c .before .before .before .before .before .before .before .before .args in
     no-log (holds-none (a .block .now) (c .before .before .load .ensures) (c .enum-told .given .1)) refl refl refl
 
 same-length-2 : tie.Need-same-length-2
@@ -39,7 +39,7 @@ same-length-3 c = search needs
 
 returns-2 : tie.Need-returns-2
 returns-2 c =
-    let a = c .before .before .before .before .before .before .before .before .before .before .before .before .before .before .before .before .before .before .args in
+    let a = c .before .before .before .before .before .before .before .before .before .before .before .before .before .before .before .before .before .args in
     let save = c .before .before .save .ensures in
     runs
     (holds (a .block .now) (c .before .before .before .before .before .before .before .before .before .before .before .load .ensures) (c .before .before .before .before .before .before .before .before .before .log .given .1))
