@@ -55,8 +55,8 @@ flag-small true e = omega (arith, e)
 flag-small false e = omega (arith, e)
 
 -- of three flags the one worth 4 is set where they are at least 4
-pub fourth-flag : (f : ℕ) → f ≤ 7 → leb 4 f ≡ eqb (f / 4 % 2) 1
-fourth-flag f h = go (leb 4 f) refl
+pub flag-four : (f : ℕ) → f ≤ 7 → leb 4 f ≡ eqb (f / 4 % 2) 1
+flag-four f h = go (leb 4 f) refl
   where
     go : (b : Bool) → leb 4 f ≡ b → b ≡ eqb (f / 4 % 2) 1
     go true e = let k : 4 ≤ f = leb-true 4 f e in sym (eq-eqb (f / 4 % 2) 1 (omega (arith, h, k)))

@@ -1,6 +1,6 @@
 -- `capi::block::log_at` meets its contract.
 use lib.ListN.{getD}
-use Rattle.capi.proofs.Blocks.{fourth-flag}
+use Rattle.capi.proofs.Blocks.{flag-four}
 use borrow.Author.Needs.{needs}
 use Rattle.capi.proofs.block.log_at.Statement.{statement}
 use Rattle.capi.proofs.block.log_at.Tie as tie
@@ -38,7 +38,7 @@ word-at-requires-7 c κs = search needs
 returns : tie.Need-returns
 returns c =
     let start = c .before .before .before .before .before .before .before .before .before .before .before in
-    let appends = fourth-flag (getD (start .args .block .now) 12 0) (start .pre .1) in
+    let appends = flag-four (getD (start .args .block .now) 12 0) (start .pre .1) in
     rw (c .before .before .before .before .before .before .before .before .before .word-at .ensures, c .before .before .before .before .before .before .before .before .word-at2 .ensures, c .before .before .before .before .before .before .before .word-at3 .ensures, c .before .before .before .before .before .state-from .ensures, c .before .before .before .before .word-at4 .ensures, c .before .before .before .word-at5 .ensures, c .before .before .word-at6 .ensures, c .word-at7 .ensures, appends)
 
 pub log-at-spec : {M : Type 1} → statement M
