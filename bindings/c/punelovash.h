@@ -34,12 +34,12 @@
  *     7 SIZE     as before    the entry is too long for a page or for a read's length; more page IDs than a survey has room for
  *     8 CANCEL   R = O        a read with R > A
  *     20 SHAPE   as before    sizes that aren't allowed, or a volume, page or hold of another length where it is lent
- *     21 STATE   as before    the block holds no log: not 44 bytes, a flag above 1, a state above 5, or IDs or a length that are no log's
+ *     21 STATE   as before    the block holds no log: not 44 bytes, flags above 7, a state above 5, or IDs or a length that are no log's
  *     22 STRAY   as before    a completion or a deferred call that isn't due
  *     23 LIMIT   as before    an append that needs a page at C
  *
  * What the driver's word leaves is said at each call. SHAPE, STATE and STRAY come before all else; a block of another length
- * or with such a flag or state is refused as STATE before SHAPE. After 20 and 21 there is no report and no request, but bytes
+ * or with such flags or state is refused as STATE before SHAPE. After 20 and 21 there is no report and no request, but bytes
  * 32 to 43 of the block may still be those of an earlier call: look at the answer first.
  *
  * How the flash is driven
@@ -105,14 +105,12 @@ extern "C" {
 #define PUNELOVASH_WORD_FAIL 1u
 #define PUNELOVASH_WORD_BUSY 2u
 
-/* The block: 44 bytes. Words are 4 bytes, the lowest first. */
+/* The block: 44 bytes. Words are 4 bytes, the lowest first. Bytes 13 and 14 are not used: no call looks at them or writes them. */
 #define PUNELOVASH_BLOCK_SIZE 44u
 #define PUNELOVASH_AT_PAGE_SIZE 0u      /* word: P */
 #define PUNELOVASH_AT_PAGE_COUNT 4u     /* word: N */
 #define PUNELOVASH_AT_FIRST_PAGE 8u     /* word: the first flash page number */
-#define PUNELOVASH_AT_CIRCULAR 12u      /* byte: 0 or 1 */
-#define PUNELOVASH_AT_READ_CLIENT 13u   /* byte: 0 or 1 */
-#define PUNELOVASH_AT_APPEND_CLIENT 14u /* byte: 0 or 1 */
+#define PUNELOVASH_AT_FLAGS 12u         /* byte: the sum of the flags that are set */
 #define PUNELOVASH_AT_STATE 15u         /* byte: see the states */
 #define PUNELOVASH_AT_OLDEST 16u        /* word: O */
 #define PUNELOVASH_AT_READ 20u          /* word: R */
@@ -124,6 +122,11 @@ extern "C" {
 #define PUNELOVASH_AT_REQUEST 35u       /* byte: see the requests */
 #define PUNELOVASH_AT_REPORT_LENGTH 36u /* word */
 #define PUNELOVASH_AT_REQUEST_PAGE 40u  /* word: a flash page number */
+
+/* Flags: a restart's circular, read_client and append_client that weren't 0. */
+#define PUNELOVASH_CIRCULAR 1u
+#define PUNELOVASH_READ_CLIENT 2u
+#define PUNELOVASH_APPEND_CLIENT 4u
 
 /* States. */
 #define PUNELOVASH_IDLE 0u

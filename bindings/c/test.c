@@ -372,9 +372,7 @@ static void worked_cases(void)
     SAME(punelovash_word_at(b.block, PUNELOVASH_AT_PAGE_SIZE), 32, "page size");
     SAME(punelovash_word_at(b.block, PUNELOVASH_AT_PAGE_COUNT), 4, "page count");
     SAME(punelovash_word_at(b.block, PUNELOVASH_AT_FIRST_PAGE), 7, "first page");
-    SAME(b.block[PUNELOVASH_AT_CIRCULAR], 1, "circular");
-    SAME(b.block[PUNELOVASH_AT_READ_CLIENT], 1, "read client");
-    SAME(b.block[PUNELOVASH_AT_APPEND_CLIENT], 1, "append client");
+    SAME(b.block[PUNELOVASH_AT_FLAGS], PUNELOVASH_CIRCULAR + PUNELOVASH_READ_CLIENT + PUNELOVASH_APPEND_CLIENT, "flags");
     for (int k = 0; k < 32; k++) SAME(b.page[k], 0, "the page buffer of an empty log");
     for (int k = 0; k < 32; k++) SAME(b.hold[k], 0x44, "the hold buffer after a restart");
     SAME(sync_log(&b, PUNELOVASH_WORD_OK), PUNELOVASH_OK, "fresh sync");
@@ -863,7 +861,7 @@ static void refusals(void)
     REFUSED(&b, sync_log(&b, 0), PUNELOVASH_OK); /* nothing to write */
     b.append_client = 77; /* any number but 0 */
     SAME(restart(&b), PUNELOVASH_OK, "restart with an append client");
-    SAME(b.block[PUNELOVASH_AT_APPEND_CLIENT], 1, "append client");
+    SAME(b.block[PUNELOVASH_AT_FLAGS], PUNELOVASH_CIRCULAR + PUNELOVASH_APPEND_CLIENT, "flags");
     SAME(append(&b, ones, 5, 5, 0), PUNELOVASH_OK, "append");
     REFUSED(&b, read_into(&b, b.buffer, 32, 32), PUNELOVASH_RESERVE);
     drop(&b);
@@ -874,6 +872,28 @@ static void refusals(void)
     REFUSED(&b, sync_log(&b, 0), PUNELOVASH_RESERVE);
     REFUSED(&b, read_into(&b, b.buffer, 32, 32), PUNELOVASH_FAIL); /* length 0 is a bad entry header */
     drop(&b);
+
+    part = "flags";
+    for (uint8_t flags = 0; flags < 8; flags++) {
+        int circular = flags % 2, reads = flags / 2 % 2, appends = flags / 4;
+        make(&b, 16, 2, 0, circular ? 200 : 0);
+        b.read_client = reads ? 1 : 0;
+        b.append_client = appends ? 255 : 0;
+        b.block[13] = 77; /* not used */
+        b.block[14] = 255;
+        SAME(restart(&b), PUNELOVASH_OK, "restart");
+        SAME(b.block[PUNELOVASH_AT_FLAGS], flags, "flags");
+        SAME(seek(&b, 4), reads ? PUNELOVASH_OK : PUNELOVASH_RESERVE, "seek");
+        SAME(deferred_call(&b), PUNELOVASH_OK, "deferred_call");
+        SAME(erase(&b, PUNELOVASH_WORD_BUSY), appends ? PUNELOVASH_BUSY : PUNELOVASH_RESERVE, "erase");
+        SAME(restart(&b), PUNELOVASH_OK, "restart, as the state may be Erase");
+        b.block[PUNELOVASH_AT_APPEND] = 32; /* as if the log were full */
+        SAME(append(&b, ones, 1, 1, PUNELOVASH_WORD_BUSY), !circular ? PUNELOVASH_FAIL : appends ? PUNELOVASH_BUSY : PUNELOVASH_RESERVE, "append");
+        SAME(b.block[PUNELOVASH_AT_FLAGS], flags, "flags after the calls");
+        SAME(b.block[13], 77, "byte 13");
+        SAME(b.block[14], 255, "byte 14");
+        drop(&b);
+    }
 
     part = "SHAPE";
     all.count = 0;
@@ -936,7 +956,7 @@ static void refusals(void)
     {
         uint8_t good[PUNELOVASH_BLOCK_SIZE], bad[PUNELOVASH_BLOCK_SIZE];
         static const struct { uint8_t at, byte; } wrong[] = {
-            { PUNELOVASH_AT_CIRCULAR, 2 }, { PUNELOVASH_AT_READ_CLIENT, 255 }, { PUNELOVASH_AT_APPEND_CLIENT, 2 }, { PUNELOVASH_AT_STATE, 6 }
+            { PUNELOVASH_AT_FLAGS, 8 }, { PUNELOVASH_AT_FLAGS, 128 }, { PUNELOVASH_AT_FLAGS, 255 }, { PUNELOVASH_AT_STATE, 6 }
         };
         memcpy(good, b.block, sizeof good);
 #define NO_LOG(block_, length_) do { \
@@ -977,7 +997,7 @@ static void refusals(void)
         CHECK(memcmp(b.block, good, sizeof good) == 0, "a block of another length changed");
 
         /* no log by its flags comes before SHAPE */
-        b.block[PUNELOVASH_AT_CIRCULAR] = 2;
+        b.block[PUNELOVASH_AT_FLAGS] = 8;
         SAME(punelovash_sync(b.block, 44, b.volume, v - 1, b.page, 32, b.hold, 32, 0), PUNELOVASH_STATE, "STATE before SHAPE");
         memcpy(b.block, good, sizeof good);
 

@@ -355,9 +355,9 @@ fn refused_restarts_leave_the_log() {
 #[test]
 fn a_block_that_holds_no_log() {
     let volume = [0xFF; 128];
-    for at in [12, 13, 14, 15] {
+    for (at, byte) in [(12, 8), (12, 128), (12, 255), (15, 6)] {
         let mut block = [0; BLOCK_SIZE];
-        block[at] = 6;
+        block[at] = byte;
         block[32] = 1; // a report and a request that nobody made
         block[35] = 1;
         let mut log = Log::from_parts(block, [0; 32], [0; 32]);

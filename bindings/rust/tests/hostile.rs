@@ -47,7 +47,7 @@ fn number(block: &[u8], at: usize) -> usize {
 
 /// Flags and a state that a log can have, so that there are sizes to look at.
 fn holds_log(block: &[u8]) -> bool {
-    block[12..15].iter().all(|flag| *flag <= 1) && block[15] <= 5
+    block[12] <= 7 && block[15] <= 5
 }
 
 fn sizes_fit(block: &[u8]) -> bool {
@@ -65,9 +65,7 @@ fn block(random: &mut Random, p: usize, n: usize) -> [u8; BLOCK_SIZE] {
     put(&mut block, 0, p as u32);
     put(&mut block, 4, n as u32);
     put(&mut block, 8, random.below(100) as u32);
-    for flag in &mut block[12..15] {
-        *flag = random.below(2) as u8;
-    }
+    block[12] = random.below(8) as u8;
     block[15] = random.below(6) as u8;
     let last = CEILING / p - 1;
     let any = random.below(last);
@@ -173,7 +171,10 @@ fn any_bytes_are_answered_by_the_table() {
             assert_eq!(got.answer == Answer::Shape, shape, "call {call}: {got:?}");
             // sizes, mode and clients are a restart's to set
             assert_eq!(after[..15], before[..15]);
+        } else if got.answer == Answer::Ok {
+            assert_eq!(after[12], 7, "circular, with both clients");
         }
+        assert_eq!(after[13..15], before[13..15], "bytes that are not used");
         let said = match word {
             _ if ![0, 3, 4].contains(&call) => None,
             DriverWord::Ok => None,

@@ -54,9 +54,7 @@ front-same s f =
       p = f .p ∙ sym (ap (λ (g : Geometry). g .p) (s .geometry));
       n = f .n ∙ sym (ap (λ (g : Geometry). g .n) (s .geometry));
       first = f .first ∙ sym (ap (λ (g : Geometry). g .first) (s .geometry));
-      circular = record { small = f .circular .small; tells = f .circular .tells ∙ sym (s .circular) };
-      reads = record { small = f .reads .small; tells = f .reads .tells ∙ sym (s .read-client) };
-      appends = record { small = f .appends .small; tells = f .appends .tells ∙ sym (s .append-client) };
+      flags = record { small = f .flags .small; circular = f .flags .circular ∙ sym (s .circular); reads = f .flags .reads ∙ sym (s .read-client); appends = f .flags .appends ∙ sym (s .append-client) };
     }
 
 -- a call on a block that holds a reached log leaves one that holds the log which the call gave

@@ -6,8 +6,8 @@ use mathlib.Core.List.{List, [], _∷_}
 use mathlib.Core.Option.{Option, none, some, Option·none-ne-some}
 use native.Mathlib.Nat.{mul-le-mul-right}
 use native.Mathlib.Omega.{arith}
-use lib.Dec.{eqb}
-use borrow.Author.Tests.{eqb-true}
+use lib.Dec.{eqb, leb}
+use borrow.Author.Tests.{eqb-true, eq-eqb, ne-eqb, leb-true, leb-false}
 use lib.ListN.{length, set}
 use Rattle.page.specs.Pick.{pick}
 use Rattle.page.specs.Word.{wordBytes}
@@ -49,6 +49,19 @@ word-low n =
 pub product-fits : (n p : ℕ) → n < 2 ^ 32 → p < 2 ^ 32 → n * p < 2 ^ 64
 product-fits n p h k = let most : n ≤ 4294967295 = omega (arith, h) in omega (arith, k, mul-le-mul-right p most)
 
+-- a flag is 0 or 1
+pub flag-small : {f : ℕ} (b : Bool) → f ≡ pick b 1 0 → f ≤ 1
+flag-small true e = omega (arith, e)
+flag-small false e = omega (arith, e)
+
+-- of three flags the one worth 4 is set where they are at least 4
+pub flag-four : (f : ℕ) → f ≤ 7 → leb 4 f ≡ eqb (f / 4 % 2) 1
+flag-four f h = go (leb 4 f) refl
+  where
+    go : (b : Bool) → leb 4 f ≡ b → b ≡ eqb (f / 4 % 2) 1
+    go true e = let k : 4 ≤ f = leb-true 4 f e in sym (eq-eqb (f / 4 % 2) 1 (omega (arith, h, k)))
+    go false e = let k : f < 4 = leb-false 4 f e in sym (ne-eqb (f / 4 % 2) 1 (omega (arith, h, k)))
+
 -- a log, a report, a request and a log's sizes, byte by byte
 pub puts-log : (l : Log) (b0 : List ℕ) {k : ℕ} {b1 b2 b3 b4 b5 : List ℕ}
     → k ≡ stateNumber (l .state) → b1 ≡ at 15 (k ∷ []) b0 → b2 ≡ at 16 (wordBytes 4 (l .oldest)) b1 → b3 ≡ at 20 (wordBytes 4 (l .read)) b2
@@ -64,12 +77,12 @@ pub puts-request : (q : Request) (b0 : List ℕ) {kind page : ℕ} {b1 b2 : List
     → kind ≡ requestKind q → page ≡ requestPage q → b1 ≡ at 35 (kind ∷ []) b0 → b2 ≡ at 40 (wordBytes 4 page) b1 → b2 ≡ withRequest q b0
 puts-request q b0 kind page a b = rw (b, a, kind, page)
 
-pub puts-sizes : (g : Geometry) (circular read-client append-client : Bool) (b0 : List ℕ) {f1 f2 f3 : ℕ} {b1 b2 b3 b4 b5 b6 : List ℕ}
+pub puts-sizes : (g : Geometry) (circular read-client append-client : Bool) (b0 : List ℕ) {f1 f2 f3 : ℕ} {b1 b2 b3 b4 : List ℕ}
     → b1 ≡ at 0 (wordBytes 4 (g .p)) b0 → b2 ≡ at 4 (wordBytes 4 (g .n)) b1 → b3 ≡ at 8 (wordBytes 4 (g .first)) b2
-    → f1 ≡ pick circular 1 0 → b4 ≡ at 12 (f1 ∷ []) b3 → f2 ≡ pick read-client 1 0 → b5 ≡ at 13 (f2 ∷ []) b4 → f3 ≡ pick append-client 1 0 → b6 ≡ at 14 (f3 ∷ []) b5
-    → b6 ≡ sized g circular read-client append-client b0
+    → f1 ≡ pick circular 1 0 → f2 ≡ pick read-client 1 0 → f3 ≡ pick append-client 1 0 → b4 ≡ at 12 ((f1 + 2 * f2 + 4 * f3) ∷ []) b3
+    → b4 ≡ sized g circular read-client append-client b0
 unfolding sized
-puts-sizes g circular read-client append-client b0 a b c f1 d f2 e f3 f = rw (f, e, d, c, b, a, f1, f2, f3)
+puts-sizes g circular read-client append-client b0 a b c f1 f2 f3 d = rw (d, c, b, a, f1, f2, f3)
 
 -- what a call gave
 pub saves : (o : Outcome) (b0 : List ℕ) {b1 b2 b3 : List ℕ} → b1 ≡ withLog (o .log) b0 → b2 ≡ withReport (o .report) b1 → b3 ≡ withRequest (o .request) b2 → b3 ≡ saved o b0

@@ -1,5 +1,5 @@
 -- What a call saves in a block is what the next call loads from it.
-use Prim.Native.Nat.{ℕ, _+_, _≤_, _<_, _^_}
+use Prim.Native.Nat.{ℕ, _+_, _/_, _%_, _≤_, _<_, _^_}
 use mathlib.Core.Path.{_≡_, refl, sym, ap, _∙_}
 use mathlib.Core.Bool.{Bool, true, false}
 use mathlib.Core.List.{List, [], _∷_}
@@ -16,7 +16,7 @@ use Rattle.page.proofs.Words.{wordAt-four, wordAt-written}
 use Rattle.log.specs.Answer.{Report, Request}
 use Rattle.log.specs.Log.{State, Idle, Read, Seek, Append, Sync, Erase, Geometry, Log, stateNumber}
 use Rattle.call.specs.Outcome.{Outcome}
-use Rattle.capi.specs.Block.{stateFrom, logAt, loaded, reportKind, reportLost, reportResult, requestKind, at, withLog, withReport, withRequest, saved, flag, sized}
+use Rattle.capi.specs.Block.{stateFrom, logAt, loaded, reportKind, reportLost, reportResult, requestKind, at, withLog, withReport, withRequest, saved, flags, sized}
 use Rattle.capi.proofs.Blocks.{put-byte, refuses-not, passes}
 
 -- bytes put at a place keep the block's size and what is before them
@@ -172,10 +172,12 @@ state-back Append = refl
 state-back Sync = refl
 state-back Erase = refl
 
--- a flag at a place of a block
-pub record Flag (block : List ℕ) (place : ℕ) (b : Bool) : Type 0 where
-  pub small : ltb 1 (getD block place 0) ≡ false
-  pub tells : eqb (getD block place 0) 1 ≡ b
+-- the byte of a log's flags
+pub record Flags (k : ℕ) (l : Log) : Type 0 where
+  pub small : ltb 7 k ≡ false
+  pub circular : eqb (k % 2) 1 ≡ l .circular
+  pub reads : eqb (k / 2 % 2) 1 ≡ l .read-client
+  pub appends : eqb (k / 4 % 2) 1 ≡ l .append-client
 
 -- what stands before the state in a block with a log's sizes, mode and clients
 pub record Front (block : List ℕ) (l : Log) : Type 0 where
@@ -183,28 +185,22 @@ pub record Front (block : List ℕ) (l : Log) : Type 0 where
   pub p : wordAt 4 block 0 ≡ l .geometry .p
   pub n : wordAt 4 block 4 ≡ l .geometry .n
   pub first : wordAt 4 block 8 ≡ l .geometry .first
-  pub circular : Flag block 12 (l .circular)
-  pub reads : Flag block 13 (l .read-client)
-  pub appends : Flag block 14 (l .append-client)
+  pub flags : Flags (getD block 12 0) l
 
 -- a block that holds a log has its front
 pub front : (block : List ℕ) {l : Log} → loaded block ≡ some l → Front block l
 unfolding loaded
 front block {l} e =
     let a = passes (eqb (length block) 44) _ e in
-    let b = refuses-not (ltb 1 (getD block 12 0)) _ (a .1) in
-    let c = refuses-not (ltb 1 (getD block 13 0)) _ (b .1) in
-    let d = refuses-not (ltb 1 (getD block 14 0)) _ (c .1) in
-    let f = refuses-not (ltb 5 (getD block 15 0)) _ (d .1) in
-    let log : logAt block ≡ l = Option·some-injective _ _ (f .1) in
+    let b = refuses-not (ltb 7 (getD block 12 0)) _ (a .1) in
+    let c = refuses-not (ltb 5 (getD block 15 0)) _ (b .1) in
+    let log : logAt block ≡ l = Option·some-injective _ _ (c .1) in
     record {
       size = eqb-true _ _ (a .0);
       p = ap (λ (k : Log). k .geometry .p) log;
       n = ap (λ (k : Log). k .geometry .n) log;
       first = ap (λ (k : Log). k .geometry .first) log;
-      circular = record { small = b .0; tells = ap (λ (k : Log). k .circular) log };
-      reads = record { small = c .0; tells = ap (λ (k : Log). k .read-client) log };
-      appends = record { small = d .0; tells = ap (λ (k : Log). k .append-client) log };
+      flags = record { small = b .0; circular = ap (λ (k : Log). k .circular) log; reads = ap (λ (k : Log). k .read-client) log; appends = ap (λ (k : Log). k .append-client) log };
     }
 
 -- the sizes of a log in a block are words
@@ -217,7 +213,7 @@ loaded-words block b e =
 loads : (block : List ℕ) {l : Log} → Front block l → logAt block ≡ l → getD block 15 0 ≤ 5 → loaded block ≡ some l
 unfolding loaded
 loads block f e s =
-    rw (eq-eqb (length block) 44 (f .size), f .circular .small, f .reads .small, f .appends .small, le-ltb 5 (getD block 15 0) s) (ap some e)
+    rw (eq-eqb (length block) 44 (f .size), f .flags .small, le-ltb 5 (getD block 15 0) s) (ap some e)
 
 -- a log by its parts
 log-of : (m : Log) {p n first : ℕ} {circular reads appends : Bool} {state : State} {oldest read append kept : ℕ}
@@ -254,13 +250,10 @@ module _ (o : Outcome) (block : List ℕ) (z : length block ≡ 44) where
   word : (a : ℕ) → a + 4 ≤ 15 → wordAt 4 after a ≡ wordAt 4 block a
   word a i = put a (omega (arith, i)) ∙ same-word 15 a middle block (log-front (o .log) block z) i (omega arith) long z
 
-  byte : (i : ℕ) → i < 15 → getD after i 0 ≡ getD block i 0
-  byte i j = same-byte 32 i after middle kept-front (omega (arith, j)) ∙ same-byte 15 i middle block (log-front (o .log) block z) j
+  after-flags : getD after 12 0 ≡ getD block 12 0
+  after-flags = same-byte 32 12 after middle kept-front (omega arith) ∙ same-byte 15 12 middle block (log-front (o .log) block z) (omega arith)
 
   -- and so the front
-  after-flag : (i : ℕ) {b : Bool} → i < 15 → Flag block i b → Flag after i b
-  after-flag i j f = record { small = ap (ltb 1) (byte i j) ∙ f .small; tells = ap (λ (k : ℕ). eqb k 1) (byte i j) ∙ f .tells }
-
   after-front : {l : Log} → Front block l → Front after l
   after-front f =
       record {
@@ -268,9 +261,7 @@ module _ (o : Outcome) (block : List ℕ) (z : length block ≡ 44) where
         p = word 0 (omega arith) ∙ f .p;
         n = word 4 (omega arith) ∙ f .n;
         first = word 8 (omega arith) ∙ f .first;
-        circular = after-flag 12 (omega arith) (f .circular);
-        reads = after-flag 13 (omega arith) (f .reads);
-        appends = after-flag 14 (omega arith) (f .appends);
+        flags = rw after-flags (f .flags);
       }
 
 -- numbers that fit a word
@@ -294,9 +285,9 @@ round-trip block o f s =
     (g .p)
     (g .n)
     (g .first)
-    (g .circular .tells)
-    (g .reads .tells)
-    (g .appends .tells)
+    (g .flags .circular)
+    (g .flags .reads)
+    (g .flags .appends)
     (ap stateFrom (after-state o block z) ∙ state-back (o .log .state))
     (put o block z 16 (omega arith) ∙ log-oldest (o .log) block z (s .oldest))
     (put o block z 20 (omega arith) ∙ log-read (o .log) block z (s .read))
@@ -304,10 +295,19 @@ round-trip block o f s =
     (put o block z 28 (omega arith) ∙ log-kept (o .log) block z (s .kept)))
     (rw (after-state o block z) (state-small (o .log .state)))
 
--- a flag that was put
-flag-put : {block : List ℕ} {place : ℕ} (b : Bool) → getD block place 0 ≡ pick b 1 0 → Flag block place b
-flag-put true e = record { small = ap (ltb 1) e; tells = ap (λ (k : ℕ). eqb k 1) e }
-flag-put false e = record { small = ap (ltb 1) e; tells = ap (λ (k : ℕ). eqb k 1) e }
+-- flags that were put are told
+flags-put : (l : Log) → Flags (flags (l .circular) (l .read-client) (l .append-client)) l
+flags-put l = let x = go (l .circular) (l .read-client) (l .append-client) in record { small = x .0; circular = x .1; reads = x .2; appends = x .3 }
+  where
+    go : (a b c : Bool) → (ltb 7 (flags a b c) ≡ false) × (eqb (flags a b c % 2) 1 ≡ a) × (eqb (flags a b c / 2 % 2) 1 ≡ b) × (eqb (flags a b c / 4 % 2) 1 ≡ c)
+    go true true true = (refl, refl, refl, refl)
+    go true true false = (refl, refl, refl, refl)
+    go true false true = (refl, refl, refl, refl)
+    go true false false = (refl, refl, refl, refl)
+    go false true true = (refl, refl, refl, refl)
+    go false true false = (refl, refl, refl, refl)
+    go false false true = (refl, refl, refl, refl)
+    go false false false = (refl, refl, refl, refl)
 
 -- what a restart puts before the state
 module _ (l : Log) (block : List ℕ) (z : length block ≡ 44) where
@@ -321,13 +321,7 @@ module _ (l : Log) (block : List ℕ) (z : length block ≡ 44) where
   s3 = at 8 (wordBytes 4 (l .geometry .first)) s2
 
   abbrev s4 : List ℕ
-  s4 = at 12 (flag (l .circular)) s3
-
-  abbrev s5 : List ℕ
-  s5 = at 13 (flag (l .read-client)) s4
-
-  abbrev s6 : List ℕ
-  s6 = at 14 (flag (l .append-client)) s5
+  s4 = at 12 (flags (l .circular) (l .read-client) (l .append-client) ∷ []) s3
 
   w1 : length s1 ≡ 44
   w1 = put-size block 0 (wordBytes 4 (l .geometry .p)) (omega arith) z
@@ -341,38 +335,27 @@ module _ (l : Log) (block : List ℕ) (z : length block ≡ 44) where
   w4 : length s4 ≡ 44
   w4 = put-size s3 12 _ (omega arith) w3
 
-  w5 : length s5 ≡ 44
-  w5 = put-size s4 13 _ (omega arith) w4
-
-  w6 : length s6 ≡ 44
-  w6 = put-size s5 14 _ (omega arith) w5
-
   -- the bytes before each place, after all that is put from there on
-  sized-five : (n : ℕ) → n ≤ 14 → take n s6 ≡ take n s5
-  sized-five n h = put-front n s5 14 _ h (omega arith) w5
+  sized-three : (n : ℕ) → n ≤ 12 → take n s4 ≡ take n s3
+  sized-three n h = put-front n s3 12 _ h (omega arith) w3
 
-  sized-four : (n : ℕ) → n ≤ 13 → take n s6 ≡ take n s4
-  sized-four n h = sized-five n (omega (arith, h)) ∙ put-front n s4 13 _ h (omega arith) w4
-
-  sized-three : (n : ℕ) → n ≤ 12 → take n s6 ≡ take n s3
-  sized-three n h = sized-four n (omega (arith, h)) ∙ put-front n s3 12 _ h (omega arith) w3
-
-  sized-two : (n : ℕ) → n ≤ 8 → take n s6 ≡ take n s2
+  sized-two : (n : ℕ) → n ≤ 8 → take n s4 ≡ take n s2
   sized-two n h = sized-three n (omega (arith, h)) ∙ put-front n s2 8 _ h (omega arith) w2
 
-  sized-one : (n : ℕ) → n ≤ 4 → take n s6 ≡ take n s1
+  sized-one : (n : ℕ) → n ≤ 4 → take n s4 ≡ take n s1
   sized-one n h = sized-two n (omega (arith, h)) ∙ put-front n s1 4 _ h (omega arith) w1
+
+  sized-flags : getD s4 12 0 ≡ flags (l .circular) (l .read-client) (l .append-client)
+  sized-flags = byte-put s3 12 _ (omega arith) w3
 
   pub sized-front : l .geometry .p < 2 ^ 32 → l .geometry .n < 2 ^ 32 → l .geometry .first < 2 ^ 32
       → Front (sized (l .geometry) (l .circular) (l .read-client) (l .append-client) block) l
   unfolding sized
   sized-front p n first =
       record {
-        size = w6;
-        p = same-word 4 0 s6 s1 (sized-one 4 (omega arith)) (omega arith) (omega arith) w6 w1 ∙ put-word block 0 (l .geometry .p) p (omega arith) z;
-        n = same-word 8 4 s6 s2 (sized-two 8 (omega arith)) (omega arith) (omega arith) w6 w2 ∙ put-word s1 4 (l .geometry .n) n (omega arith) w1;
-        first = same-word 12 8 s6 s3 (sized-three 12 (omega arith)) (omega arith) (omega arith) w6 w3 ∙ put-word s2 8 (l .geometry .first) first (omega arith) w2;
-        circular = flag-put (l .circular) (same-byte 13 12 s6 s4 (sized-four 13 (omega arith)) (omega arith) ∙ byte-put s3 12 _ (omega arith) w3);
-        reads = flag-put (l .read-client) (same-byte 14 13 s6 s5 (sized-five 14 (omega arith)) (omega arith) ∙ byte-put s4 13 _ (omega arith) w4);
-        appends = flag-put (l .append-client) (byte-put s5 14 _ (omega arith) w5);
+        size = w4;
+        p = same-word 4 0 s4 s1 (sized-one 4 (omega arith)) (omega arith) (omega arith) w4 w1 ∙ put-word block 0 (l .geometry .p) p (omega arith) z;
+        n = same-word 8 4 s4 s2 (sized-two 8 (omega arith)) (omega arith) (omega arith) w4 w2 ∙ put-word s1 4 (l .geometry .n) n (omega arith) w1;
+        first = same-word 12 8 s4 s3 (sized-three 12 (omega arith)) (omega arith) (omega arith) w4 w3 ∙ put-word s2 8 (l .geometry .first) first (omega arith) w2;
+        flags = rw sized-flags (flags-put l);
       }

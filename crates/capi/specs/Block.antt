@@ -1,5 +1,5 @@
 -- The block that a caller lends: a log, and what the last call gave. It has 44 bytes; words are 4 bytes, the lowest first.
-use Prim.Native.Nat.{ℕ}
+use Prim.Native.Nat.{ℕ, _+_, _*_, _/_, _%_}
 use mathlib.Core.Bool.{Bool}
 use mathlib.Core.List.{List, [], _∷_}
 use mathlib.Core.Option.{Option, none, some}
@@ -22,13 +22,14 @@ blockSize = 44
 abbrev pub stateFrom : ℕ → State
 stateFrom k = pick (eqb k 0) Idle (pick (eqb k 1) Read (pick (eqb k 2) Seek (pick (eqb k 3) Append (pick (eqb k 4) Sync Erase))))
 
--- the log in a block: the sizes at 0, 4 and 8, circular at 12, the read and the append client at 13 and 14, the state at 15, O at 16, R at 20, A at 24, the kept length at 28
+-- the log in a block: the sizes at 0, 4 and 8, the flags at 12, the state at 15, O at 16, R at 20, A at 24, the kept length at 28; 13 and 14 are not used.
+-- The flags are a sum: 1 where the log is circular, 2 where the read client is set, 4 where the append client is
 abbrev pub logAt : List ℕ → Log
 logAt block = record {
   geometry = record { p = wordAt 4 block 0; n = wordAt 4 block 4; first = wordAt 4 block 8 };
-  circular = eqb (getD block 12 0) 1;
-  read-client = eqb (getD block 13 0) 1;
-  append-client = eqb (getD block 14 0) 1;
+  circular = eqb (getD block 12 0 % 2) 1;
+  read-client = eqb (getD block 12 0 / 2 % 2) 1;
+  append-client = eqb (getD block 12 0 / 4 % 2) 1;
   state = stateFrom (getD block 15 0);
   oldest = wordAt 4 block 16;
   read = wordAt 4 block 20;
@@ -36,15 +37,13 @@ logAt block = record {
   kept = wordAt 4 block 28;
 }
 
--- what is no log: another length, a flag that is neither 0 nor 1, or a state above 5
+-- what is no log: another length, flags above 7, or a state above 5
 unfoldable pub loaded : List ℕ → Option Log
 loaded block =
     pick (eqb (length block) blockSize)
-    (pick (ltb 1 (getD block 12 0)) none
-    (pick (ltb 1 (getD block 13 0)) none
-    (pick (ltb 1 (getD block 14 0)) none
+    (pick (ltb 7 (getD block 12 0)) none
     (pick (ltb 5 (getD block 15 0)) none
-    (some (logAt block))))))
+    (some (logAt block))))
     none
 
 abbrev pub loadedOf : code.Loaded → Option Log
@@ -116,10 +115,10 @@ withRequest q block = at 40 (wordBytes 4 (requestPage q)) (at 35 (requestKind q 
 unfoldable pub saved : Outcome → List ℕ → List ℕ
 saved o block = withRequest (o .request) (withReport (o .report) (withLog (o .log) block))
 
--- the block's sizes, mode and client flags, which only a restart sets
-abbrev pub flag : Bool → List ℕ
-flag t = pick t 1 0 ∷ []
+-- the block's sizes and flags, which only a restart sets
+abbrev pub flags : Bool → Bool → Bool → ℕ
+flags circular read-client append-client = pick circular 1 0 + 2 * pick read-client 1 0 + 4 * pick append-client 1 0
 
 unfoldable pub sized : Geometry → Bool → Bool → Bool → List ℕ → List ℕ
 sized g circular read-client append-client block =
-    at 14 (flag append-client) (at 13 (flag read-client) (at 12 (flag circular) (at 8 (wordBytes 4 (g .first)) (at 4 (wordBytes 4 (g .n)) (at 0 (wordBytes 4 (g .p)) block)))))
+    at 12 (flags circular read-client append-client ∷ []) (at 8 (wordBytes 4 (g .first)) (at 4 (wordBytes 4 (g .n)) (at 0 (wordBytes 4 (g .p)) block)))

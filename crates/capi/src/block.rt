@@ -2,7 +2,7 @@
 ghost use mathlib.Core.Path.{_≡_};
 ghost use mathlib.Core.List.{[], _∷_};
 ghost use Prim.Native.Nat.{_+_, _≤_, _<_, _^_};
-ghost use lib.ListN.{length};
+ghost use lib.ListN.{length, getD};
 ghost use Rattle.page.specs.Word.{wordAt, wordBytes};
 ghost use Rattle.page.specs.Bytes.{overwrite};
 ghost use Rattle.log.specs.Answer.{reportOf, requestOf};
@@ -55,7 +55,7 @@ fn word_at(block: &[u8], at: usize) -> usize
 
 // The log of a block whose bytes were tested.
 fn log_at(block: &[u8]) -> Log
-    requires { ⌜ length (now block) ≡ 44 ⌝ }
+    requires { ⌜ (length (now block) ≡ 44) × (getD (now block) 12 0 ≤ 7) ⌝ }
     ensures { λ r. ⌜ logOf r ≡ logAt (now (block .entry)) ⌝ }
 {
     let geometry = Geometry {
@@ -67,11 +67,12 @@ fn log_at(block: &[u8]) -> Log
     let oldest = EntryID(word_at(block, 16));
     let read = EntryID(word_at(block, 20));
     let append = EntryID(word_at(block, 24));
+    let flags = block[12];
     Log {
         geometry,
-        circular: block[12] == 1,
-        read_client: block[13] == 1,
-        append_client: block[14] == 1,
+        circular: flags % 2 == 1,
+        read_client: flags / 2 % 2 == 1,
+        append_client: 4 <= flags,
         state,
         oldest_entry_id: oldest,
         read_entry_id: read,
@@ -80,20 +81,14 @@ fn log_at(block: &[u8]) -> Log
     }
 }
 
-// What is no log is told from one: another length, a flag above 1, a state above 5.
+// What is no log is told from one: another length, flags above 7, a state above 5.
 pub(crate) fn load(block: &[u8]) -> Loaded
     ensures { λ r. ⌜ loadedOf r ≡ loaded (now (block .entry)) ⌝ }
 {
     if block.len() != BLOCK_SIZE {
         return Loaded::Bad;
     }
-    if 1 < block[12] {
-        return Loaded::Bad;
-    }
-    if 1 < block[13] {
-        return Loaded::Bad;
-    }
-    if 1 < block[14] {
+    if 7 < block[12] {
         return Loaded::Bad;
     }
     if 5 < block[15] {
@@ -170,7 +165,9 @@ pub(crate) fn save_sizes(
     put_word(block, 0, geometry.page_size);
     put_word(block, 4, geometry.page_count);
     put_word(block, 8, geometry.first_page);
-    put_byte(block, 12, numbers::flag(circular));
-    put_byte(block, 13, numbers::flag(read_client));
-    put_byte(block, 14, numbers::flag(append_client));
+    put_byte(
+        block,
+        12,
+        numbers::flag(circular) + 2 * numbers::flag(read_client) + 4 * numbers::flag(append_client),
+    );
 }

@@ -24,8 +24,8 @@ unfolding loaded
 returns-2 c =
     let block = c .before .before .before .before .args .block .now in
     let long : eqb (length block) 44 ≡ true = eq-eqb _ _ (c .before .before .if1 .left) in
-    let circular : ltb 1 (getD block 12 0) ≡ true = lt-ltb _ _ (c .if2 .taken) in
-    rw (long, circular)
+    let flags : ltb 7 (getD block 12 0) ≡ true = lt-ltb _ _ (c .if2 .taken) in
+    rw (long, flags)
 
 shared-slice-read-if3 : tie.Need-shared-slice-read-if3
 shared-slice-read-if3 c = search needs
@@ -35,50 +35,21 @@ unfolding loaded
 returns-3 c =
     let block = c .before .before .before .before .before .before .args .block .now in
     let long : eqb (length block) 44 ≡ true = eq-eqb _ _ (c .before .before .before .before .if1 .left) in
-    let circular : ltb 1 (getD block 12 0) ≡ false = le-ltb _ _ (c .before .before .if2 .left) in
-    let reads : ltb 1 (getD block 13 0) ≡ true = lt-ltb _ _ (c .if3 .taken) in
-    rw (long, circular, reads)
-
-shared-slice-read-if4 : tie.Need-shared-slice-read-if4
-shared-slice-read-if4 c = search needs
-
-returns-4 : tie.Need-returns-4
-unfolding loaded
-returns-4 c =
-    let block = c .before .before .before .before .before .before .before .before .args .block .now in
-    let long : eqb (length block) 44 ≡ true = eq-eqb _ _ (c .before .before .before .before .before .before .if1 .left) in
-    let circular : ltb 1 (getD block 12 0) ≡ false = le-ltb _ _ (c .before .before .before .before .if2 .left) in
-    let reads : ltb 1 (getD block 13 0) ≡ false = le-ltb _ _ (c .before .before .if3 .left) in
-    let appends : ltb 1 (getD block 14 0) ≡ true = lt-ltb _ _ (c .if4 .taken) in
-    rw (long, circular, reads, appends)
-
-shared-slice-read-if5 : tie.Need-shared-slice-read-if5
-shared-slice-read-if5 c = search needs
-
-returns-5 : tie.Need-returns-5
-unfolding loaded
-returns-5 c =
-    let block = c .before .before .before .before .before .before .before .before .before .before .args .block .now in
-    let long : eqb (length block) 44 ≡ true = eq-eqb _ _ (c .before .before .before .before .before .before .before .before .if1 .left) in
-    let circular : ltb 1 (getD block 12 0) ≡ false = le-ltb _ _ (c .before .before .before .before .before .before .if2 .left) in
-    let reads : ltb 1 (getD block 13 0) ≡ false = le-ltb _ _ (c .before .before .before .before .if3 .left) in
-    let appends : ltb 1 (getD block 14 0) ≡ false = le-ltb _ _ (c .before .before .if4 .left) in
-    let state : ltb 5 (getD block 15 0) ≡ true = lt-ltb _ _ (c .if5 .taken) in
-    rw (long, circular, reads, appends, state)
+    let flags : ltb 7 (getD block 12 0) ≡ false = le-ltb _ _ (c .before .before .if2 .left) in
+    let state : ltb 5 (getD block 15 0) ≡ true = lt-ltb _ _ (c .if3 .taken) in
+    rw (long, flags, state)
 
 log-at-requires : tie.Need-log-at-requires
 log-at-requires c κs = search needs
 
-returns-6 : tie.Need-returns-6
+returns-4 : tie.Need-returns-4
 unfolding loaded
-returns-6 c =
-    let block = c .before .before .before .before .before .before .before .before .before .before .before .args .block .now in
-    let long : eqb (length block) 44 ≡ true = eq-eqb _ _ (c .before .before .before .before .before .before .before .before .before .if1 .left) in
-    let circular : ltb 1 (getD block 12 0) ≡ false = le-ltb _ _ (c .before .before .before .before .before .before .before .if2 .left) in
-    let reads : ltb 1 (getD block 13 0) ≡ false = le-ltb _ _ (c .before .before .before .before .before .if3 .left) in
-    let appends : ltb 1 (getD block 14 0) ≡ false = le-ltb _ _ (c .before .before .before .if4 .left) in
-    let state : ltb 5 (getD block 15 0) ≡ false = le-ltb _ _ (c .before .if5 .left) in
-    rw (long, circular, reads, appends, state, c .log-at .ensures)
+returns-4 c =
+    let block = c .before .before .before .before .before .before .before .args .block .now in
+    let long : eqb (length block) 44 ≡ true = eq-eqb _ _ (c .before .before .before .before .before .if1 .left) in
+    let flags : ltb 7 (getD block 12 0) ≡ false = le-ltb _ _ (c .before .before .before .if2 .left) in
+    let state : ltb 5 (getD block 15 0) ≡ false = le-ltb _ _ (c .before .if3 .left) in
+    rw (long, flags, state, c .log-at .ensures)
 
 pub load-spec : {M : Type 1} → statement M
 load-spec =
@@ -89,9 +60,5 @@ load-spec =
     returns-2
     shared-slice-read-if3
     returns-3
-    shared-slice-read-if4
-    returns-4
-    shared-slice-read-if5
-    returns-5
     log-at-requires
-    returns-6)
+    returns-4)
