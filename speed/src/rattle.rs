@@ -84,6 +84,20 @@ mod library {
             word: u8,
         ) -> u32;
         pub fn punelovash_deferred_call(block: *mut u8, block_length: usize) -> u32;
+        pub fn punelovash_survey(
+            page_size: u32,
+            page_count: u32,
+            first_page: u32,
+            volume: *const u8,
+            volume_length: usize,
+            ids: *mut u32,
+            ids_length: usize,
+            count: *mut usize,
+        ) -> u32;
+        pub fn punelovash_log_start(block: *const u8, block_length: usize) -> usize;
+        pub fn punelovash_log_end(block: *const u8, block_length: usize) -> usize;
+        pub fn punelovash_next_read_entry_id(block: *const u8, block_length: usize) -> usize;
+        pub fn punelovash_get_size(block: *const u8, block_length: usize) -> usize;
     }
 }
 
@@ -102,6 +116,16 @@ const WRITE: u8 = 1;
 /// The driver's word.
 const OK: u8 = 0;
 
+type Getter = unsafe extern "C" fn(*const u8, usize) -> usize;
+
+/// The getters, by name.
+pub const GETTERS: [(&str, Getter); 4] = [
+    ("log_start", library::punelovash_log_start),
+    ("log_end", library::punelovash_log_end),
+    ("next_read_entry_id", library::punelovash_next_read_entry_id),
+    ("get_size", library::punelovash_get_size),
+];
+
 pub struct Rattle {
     block: [u8; 44],
     lent: &'static [u8],
@@ -118,6 +142,30 @@ pub struct Rattle {
 impl Rattle {
     fn word(&self, at: usize) -> u32 {
         u32::from_le_bytes(self.block[at..at + 4].try_into().expect("4 bytes"))
+    }
+
+    /// The survey, into a slice with room for every page.
+    pub fn survey(&mut self, ids: &mut [u32]) {
+        let mut count = 0;
+        let answer = unsafe {
+            library::punelovash_survey(
+                self.page.len() as u32,
+                self.page_count,
+                0,
+                self.lent.as_ptr(),
+                self.lent.len(),
+                ids.as_mut_ptr(),
+                ids.len(),
+                &mut count,
+            )
+        };
+        assert!(answer == 0 && count > 0);
+    }
+
+    /// One of the four getters.
+    pub fn get(&self, getter: Getter) {
+        let number = unsafe { getter(self.block.as_ptr(), self.block.len()) };
+        assert!(number > 0);
     }
 
     /// What the caller does after each call: the answer, the report and the request.

@@ -1,7 +1,7 @@
 //! The stack that a call uses: it runs on a stack of its own, painted beforehand, and the deepest byte that changed is looked for.
 
 use crate::original::Original;
-use crate::rattle::Rattle;
+use crate::rattle::{Rattle, GETTERS};
 use crate::side::{fill_page, flush, next_page, Side};
 use std::arch::asm;
 use std::ffi::c_void;
@@ -53,7 +53,8 @@ fn used(mut call: impl FnMut()) -> usize {
 
 pub struct Use {
     pub call: &'static str,
-    pub rust: usize,
+    /// Nothing where the Rust has no such call, or no function of its own for it.
+    pub rust: Option<usize>,
     pub rattle: usize,
 }
 
@@ -90,8 +91,27 @@ fn uses<S: Side>() -> Vec<(&'static str, usize)> {
     all
 }
 
+/// The calls of the library that `Log` has not, or reads a cell for.
+fn others() -> Vec<Use> {
+    let mut side = Rattle::new(512, 4);
+    let mut ids = [0; 4];
+    next_page(&mut side, 64);
+    let mut all = vec![("survey", used(|| side.survey(&mut ids)))];
+    all.extend(GETTERS.map(|(name, getter)| (name, used(|| side.get(getter)))));
+    let of = |(call, rattle)| Use {
+        call,
+        rust: None,
+        rattle,
+    };
+    all.into_iter().map(of).collect()
+}
+
 pub fn table() -> Vec<Use> {
     let both = uses::<Original<512>>().into_iter().zip(uses::<Rattle>());
-    both.map(|((call, rust), (_, rattle))| Use { call, rust, rattle })
-        .collect()
+    let of = |((call, rust), (_, rattle))| Use {
+        call,
+        rust: Some(rust),
+        rattle,
+    };
+    both.map(of).chain(others()).collect()
 }

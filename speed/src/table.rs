@@ -124,6 +124,7 @@ fn print_stack() {
     println!("| call | Rust | Rattle |");
     println!("|---|---|---|");
     for stack::Use { call, rust, rattle } in stack::table() {
+        let rust = rust.map_or("-".into(), |bytes| bytes.to_string());
         println!("| {call} | {rust} | {rattle} |");
     }
     println!();
