@@ -168,16 +168,26 @@ impl Rattle {
         assert!(number > 0);
     }
 
-    /// What the caller does after each call: the answer, the report and the request.
+    /// A caller looks at what a call can give: the answer ..
     #[inline(always)]
-    fn take(&mut self, answer: u32) {
+    fn accepted(&self, answer: u32) {
         assert!(answer == 0);
+    }
+
+    /// .. the report ..
+    #[inline(always)]
+    fn take_report(&mut self) {
         if self.block[REPORT_KIND] != 0 {
             self.length = self.word(REPORT_LENGTH);
             if self.block[REPORT_RESULT] == 0 {
                 self.reports += 1;
             }
         }
+    }
+
+    /// .. and the request.
+    #[inline(always)]
+    fn take_request(&mut self) {
         if self.block[REQUEST_KIND] == WRITE {
             self.slot = Some(self.word(REQUEST_PAGE));
         }
@@ -226,7 +236,7 @@ impl Side for Rattle {
                 self.hold.len(),
             )
         };
-        self.take(answer);
+        self.accepted(answer);
     }
 
     #[inline(always)]
@@ -247,7 +257,9 @@ impl Side for Rattle {
                 OK,
             )
         };
-        self.take(answer);
+        self.accepted(answer);
+        self.take_report();
+        self.take_request();
     }
 
     #[inline(always)]
@@ -265,14 +277,14 @@ impl Side for Rattle {
                 self.buffer.len(),
             )
         };
-        self.take(answer);
+        self.accepted(answer);
     }
 
     #[inline(always)]
     fn seek(&mut self, id: usize) {
         let answer =
             unsafe { library::punelovash_seek(self.block.as_mut_ptr(), self.block.len(), id) };
-        self.take(answer);
+        self.accepted(answer);
     }
 
     #[inline(always)]
@@ -290,14 +302,15 @@ impl Side for Rattle {
                 OK,
             )
         };
-        self.take(answer);
+        self.accepted(answer);
+        self.take_request();
     }
 
     #[inline(always)]
     fn erase(&mut self) {
         let answer =
             unsafe { library::punelovash_erase(self.block.as_mut_ptr(), self.block.len(), OK) };
-        self.take(answer);
+        self.accepted(answer);
     }
 
     #[inline(always)]
@@ -316,7 +329,8 @@ impl Side for Rattle {
                 1,
             )
         };
-        self.take(answer);
+        self.accepted(answer);
+        self.take_report();
     }
 
     #[inline(always)]
@@ -335,14 +349,16 @@ impl Side for Rattle {
                 OK,
             )
         };
-        self.take(answer);
+        self.accepted(answer);
+        self.take_report();
     }
 
     #[inline(always)]
     fn deferred_call(&mut self) {
         let answer =
             unsafe { library::punelovash_deferred_call(self.block.as_mut_ptr(), self.block.len()) };
-        self.take(answer);
+        self.accepted(answer);
+        self.take_report();
     }
 
     fn page_size(&self) -> usize {
