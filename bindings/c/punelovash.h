@@ -18,7 +18,8 @@
  * without `const` overlaps nothing else that is lent in the same call. From one call to the next, block, page and hold stay as
  * the call before left them; only a restart may get others. Whatever bytes they hold, every call is safe and ends.
  *
- * A call is lent what it looks at: seek, erase and the deferred call the block alone, and a read no hold buffer.
+ * Seek, erase and the deferred call are lent the block alone, and a read no hold buffer: they read and write no byte of what
+ * isn't lent. The other calls are lent all three, and look at their lengths.
  *
  * Answers
  * -------
