@@ -19,7 +19,8 @@ fn next<'a>(volume: &'a [u8], buffer: &'a [u8], a: usize, r: usize)
         Place::End => print::word(b"end"),
         Place::At(id) => {
             print::number(id.0);
-            match lookup::held::read_entry_header(volume, buffer, 32, EntryID(a), id) {
+            let rest = lookup::held::get_rest(volume, buffer, 32, EntryID(a), id);
+            match lookup::held::read_entry_header(rest, 32) {
                 EntryLength::Bad => print::word(b"bad"),
                 EntryLength::Is(n) => print::number(n),
             }
