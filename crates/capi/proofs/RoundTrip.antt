@@ -9,12 +9,11 @@ use lib.ListN.{length, take, drop, getD, take-append-drop}
 use lib.Seq.{getD-take, getD-set-same, length-take-le}
 use lib.Dec.{eqb, ltb}
 use borrow.Author.Tests.{eq-eqb, eqb-true, le-ltb}
-use Rattle.page.specs.Pick.{pick}
 use Rattle.page.specs.Word.{le, wordAt, wordBytes}
 use Rattle.page.proofs.Overwrites.{length-overwrite, overwrite-before, window-left}
 use Rattle.page.proofs.Words.{wordAt-four, wordAt-written}
 use Rattle.log.specs.Answer.{Report, Request}
-use Rattle.log.specs.Log.{State, Idle, Read, Seek, Append, Sync, Erase, Geometry, Log, stateNumber}
+use Rattle.log.specs.Log.{State, Idle, Read, Seek, Append, Sync, Erase, Log, stateNumber}
 use Rattle.call.specs.Outcome.{Outcome}
 use Rattle.capi.specs.Block.{stateFrom, logAt, loaded, reportKind, reportLost, reportResult, requestKind, at, withLog, withReport, withRequest, saved, flags, sized}
 use Rattle.capi.proofs.Blocks.{put-byte, refuses-not, passes}

@@ -20,7 +20,7 @@ use Rattle.log.specs.Answer.{OK, FAIL, SIZE, CANCEL, SHAPE, append-done}
 use Rattle.log.specs.Log.{Geometry, State, Idle, Read, Seek, Append, Sync, Erase, Log}
 use Rattle.log.specs.Check.{shapeFits}
 use Rattle.log.specs.Open.{mayOpen}
-use Rattle.recovery.specs.Restart.{started, refused, headers, logFrom, restoredLog, restart, Restarts}
+use Rattle.recovery.specs.Restart.{started, refused, headers, logFrom, restoredLog, restart}
 use Rattle.call.specs.Outcome.{Outcome, Word, ok, busy, fail, orElse, refusal, unless}
 use Rattle.call.specs.Gate.{gate, unlessDeferred, unlessSet, unlessFree}
 use Rattle.buffering.specs.Flush.{flush}
