@@ -7,7 +7,7 @@ use mathlib.Core.Option.{Option, none, some, Option·some-injective}
 use native.Mathlib.Omega.{arith}
 use lib.ListN.{length}
 use Rattle.page.specs.Pick.{pick}
-use Rattle.page.specs.Sizes.{four}
+use Rattle.page.proofs.Kit.{four}
 use Rattle.page.specs.Header.{Extent}
 use Rattle.log.specs.Answer.{OK, SHAPE}
 use Rattle.log.specs.Log.{Geometry, Log}
@@ -43,7 +43,7 @@ call-state {l} (erased {volume} {page} {hold} {good} {word} a) h = rw (a .answer
 small : (l : Log) → sizesFit 4 (l .geometry) ≡ true → stateFits 4 l ≡ true → Small l
 small l g h =
     let s = state-fits 4 l h in
-    let z = sizes-fit four (l .geometry) g in
+    let z = sizes-fit 4 (l .geometry) g in
     record { oldest = omega (arith, s); read = omega (arith, s); append = omega (arith, s); kept = omega (arith, s, z) }
 
 -- a block's front serves every log with the same sizes, mode and clients
@@ -104,7 +104,7 @@ restored g circular read-client append-client volume page hold {l} e = go (shape
         → pick b (started (restoredLog 4 g circular read-client append-client volume)) (refused SHAPE) ≡ started l → Restored g circular read-client append-client l
     go true s q =
         let i : restoredLog 4 g circular read-client append-client volume ≡ l = cc in
-        record { sizes = sizes-of four g (length volume) (length page) (length hold) s; found = rw i at (restored-same g circular read-client append-client volume) }
+        record { sizes = sizes-of 4 g (length volume) (length page) (length hold) s; found = rw i at (restored-same g circular read-client append-client volume) }
     go false s q = let z : _≡_ {A = ℕ} 0 1 = cc in absurd (omega arith)
 
 restart-holds : {g : Geometry} {circular read-client append-client : Bool} {block block' volume page page' hold : List ℕ}
@@ -114,8 +114,8 @@ restart-holds (shape z a s r) = absurd (omega (arith, a))
 restart-holds {g} {circular} {read-client} {append-client} {block} {block'} {volume} {page} {page'} {hold} (starts {l} z a s r) =
     let q = restored g circular read-client append-client volume page hold (sym (r .answers)) in
     let sizes : sizesFit 4 (l .geometry) ≡ true = ap (sizesFit 4) (q .found .geometry) ∙ q .sizes in
-    let state : stateFits 4 l ≡ true = restart-fits four g circular read-client append-client volume page hold (sym (r .answers)) in
-    let f = sizes-fit four g (q .sizes) in
+    let state : stateFits 4 l ≡ true = restart-fits 4 g circular read-client append-client volume page hold (sym (r .answers)) in
+    let f = sizes-fit 4 g (q .sizes) in
     let at-front = sized-front (atRest g circular read-client append-client 0 0) block z (omega (arith, f)) (omega (arith, f)) (omega (arith, f)) in
     rw s
     (record {

@@ -43,14 +43,14 @@ fn put_word(block: &mut [u8], at: usize, number: usize)
     requires { ⌜ at + 4 ≤ length (now block) ⌝ }
     ensures { λ r. ⌜ now (block .exit) ≡ overwrite (now (block .entry)) at (wordBytes 4 number) ⌝ }
 {
-    word::write_word(block, at, (number % 4294967296) as u32);
+    word::write_four(block, at, (number % 4294967296) as u32);
 }
 
 fn word_at(block: &[u8], at: usize) -> usize
     requires { ⌜ at + 4 ≤ length (now block) ⌝ }
     ensures { λ r. ⌜ r ≡ wordAt 4 (now (block .entry)) at ⌝ }
 {
-    word::read_word(block, at) as usize
+    word::read_four(block, at) as usize
 }
 
 // The log of a block whose bytes were tested.

@@ -38,7 +38,7 @@ pub extern "C" fn punelovash_append(
         Loaded::Bad => STATE,
         Loaded::Log(log) => {
             let said = numbers::word_from(word);
-            let given = writing::append::append(log, volume, page, hold, data, length, said);
+            let given = writing::append::append(4, log, volume, page, hold, data, length, said);
             block::save(given, block)
         }
     }
@@ -58,7 +58,7 @@ pub extern "C" fn punelovash_read<'a>(
     match block::load(block) {
         Loaded::Bad => STATE,
         Loaded::Log(log) => {
-            let given = reading::read::read(log, volume, page, page, buffer, length);
+            let given = reading::read::read(4, log, volume, page, page, buffer, length);
             block::save(given, block)
         }
     }
@@ -74,7 +74,7 @@ pub extern "C" fn punelovash_seek(block: &mut [u8], entry_id: usize) -> u32
         Loaded::Log(log) => {
             let p = log.geometry.page_size;
             let volume_len = block::volume_length(log);
-            let given = reading::seek::seek(log, volume_len, p, p, EntryID(entry_id));
+            let given = reading::seek::seek(4, log, volume_len, p, p, EntryID(entry_id));
             block::save(given, block)
         }
     }
@@ -95,7 +95,7 @@ pub extern "C" fn punelovash_sync(
         Loaded::Bad => STATE,
         Loaded::Log(log) => {
             let said = numbers::word_from(word);
-            let given = writing::sync::sync(log, volume, page, hold, said);
+            let given = writing::sync::sync(4, log, volume, page, hold, said);
             block::save(given, block)
         }
     }
@@ -112,7 +112,7 @@ pub extern "C" fn punelovash_erase(block: &mut [u8], word: u8) -> u32
             let said = numbers::word_from(word);
             let p = log.geometry.page_size;
             let volume_len = block::volume_length(log);
-            let given = erasing::erase::erase(log, volume_len, p, p, said);
+            let given = erasing::erase::erase(4, log, volume_len, p, p, said);
             block::save(given, block)
         }
     }
@@ -133,6 +133,7 @@ pub extern "C" fn punelovash_write_complete(
         Loaded::Bad => STATE,
         Loaded::Log(log) => {
             let given = completing::write_complete::write_complete(
+                4,
                 log,
                 volume,
                 page,
@@ -160,7 +161,7 @@ pub extern "C" fn punelovash_erase_complete(
         Loaded::Bad => STATE,
         Loaded::Log(log) => {
             let said = numbers::word_from(word);
-            let given = erasing::erase::erase_complete(log, volume, page, hold, good != 0, said);
+            let given = erasing::erase::erase_complete(4, log, volume, page, hold, good != 0, said);
             block::save(given, block)
         }
     }
@@ -176,7 +177,7 @@ pub extern "C" fn punelovash_deferred_call(block: &mut [u8]) -> u32
         Loaded::Log(log) => {
             let p = log.geometry.page_size;
             let volume_len = block::volume_length(log);
-            let given = reading::deferred::handle_deferred_call(log, volume_len, p, p);
+            let given = reading::deferred::handle_deferred_call(4, log, volume_len, p, p);
             block::save(given, block)
         }
     }

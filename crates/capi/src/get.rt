@@ -46,7 +46,7 @@ pub extern "C" fn punelovash_get_size(block: &[u8]) -> usize
 {
     match block::load(block) {
         Loaded::Bad => 0,
-        Loaded::Log(log) => match get::get_size(log) {
+        Loaded::Log(log) => match get::get_size(4, log) {
             Capacity::Bytes(bytes) => bytes,
             Capacity::Shape => 0,
         },

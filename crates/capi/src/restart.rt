@@ -54,7 +54,7 @@ pub extern "C" fn punelovash_restart(
     let circles = circular != 0;
     let reads = read_client != 0;
     let appends = append_client != 0;
-    match recovery::restart::restart(geometry, circles, reads, appends, volume, page, hold) {
+    match recovery::restart::restart(4, geometry, circles, reads, appends, volume, page, hold) {
         Restarted::Shape => 20,
         Restarted::Log(log) => {
             block::save_sizes(geometry, circles, reads, appends, block);

@@ -12,7 +12,7 @@ pub extern "C" fn punelovash_survey(
     page_count: u32,
     first_page: u32,
     volume: &[u8],
-    ids: &mut [u32],
+    ids: &mut [usize],
     count: &mut usize,
 ) -> u32
     ensures { λ r. ⌜ SurveysVolume (record { p = «page_size»; n = «page_count»; first = «first_page» }) (now (volume .entry)) (now (ids .entry)) (now (ids .exit)) (now (count .entry)) (now (count .exit)) r ⌝ }
@@ -22,7 +22,7 @@ pub extern "C" fn punelovash_survey(
         page_count: page_count as usize,
         first_page: first_page as usize,
     };
-    match survey::survey(geometry, volume, ids) {
+    match survey::survey(4, geometry, volume, ids) {
         Surveyed::Shape => 20,
         Surveyed::Size => 7,
         Surveyed::Count(n) => {

@@ -6,11 +6,11 @@ use borrow.Author.Needs.{needs}
 use Rattle.capi.proofs.block.put_word.Statement.{statement}
 use Rattle.capi.proofs.block.put_word.Tie as tie
 
-cast-write-word : tie.Need-cast-write-word
-cast-write-word c = search needs
+cast-write-four : tie.Need-cast-write-four
+cast-write-four c = search needs
 
-write-word-requires : tie.Need-write-word-requires
-write-word-requires c κs = search needs
+write-four-requires : tie.Need-write-four-requires
+write-four-requires c κs = search needs
 
 same-length : tie.Need-same-length
 same-length c = search needs
@@ -18,7 +18,7 @@ same-length c = search needs
 returns : tie.Need-returns
 returns c =
     let a = c .before .before .before .before .before .args in
-    c .before .before .write-word .ensures ∙ ap (overwrite (a .block .now) (a .at)) (word-low (a .number))
+    c .before .before .write-four .ensures ∙ ap (overwrite (a .block .now) (a .at)) (word-low (a .number))
 
 pub put-word-spec : {M : Type 1} → statement M
-put-word-spec = tie.close (tie.spec cast-write-word write-word-requires same-length returns)
+put-word-spec = tie.close (tie.spec cast-write-four write-four-requires same-length returns)
