@@ -6,6 +6,7 @@ use crate::world::World;
 use flash::operation::Operation;
 use log::get;
 use log::get::Capacity;
+use log::state::Geometry;
 use log::state::Log;
 use log::state::State;
 use page::id::EntryID;
@@ -33,20 +34,51 @@ fn survey_count(answer: Surveyed) -> usize {
     }
 }
 
-fn survey_into(log: Log, volume: &[u8], ids: &mut [u32], out: &mut [u8]) {
+// A survey of words of 4 bytes, which are then widened.
+fn survey_words(
+    geometry: Geometry,
+    volume: &[u8],
+    words: &mut [u32],
+    ids: &mut [u64],
+) -> Surveyed {
+    let answer = recovery::survey::survey_u32(geometry, volume, words);
+    text::widen(words, ids);
+    answer
+}
+
+fn survey_u32(geometry: Geometry, volume: &[u8], ids: &mut [u64]) -> Surveyed {
+    let mut words = [4294967295u32; 4096];
+    survey_words(
+        geometry,
+        volume,
+        text::front_u32(&mut words, ids.len()),
+        ids,
+    )
+}
+
+// A survey at either width.
+fn survey_ids(width: usize, geometry: Geometry, volume: &[u8], ids: &mut [u64]) -> Surveyed {
+    if width == 4 {
+        return survey_u32(geometry, volume, ids);
+    }
+    recovery::survey::survey_u64(geometry, volume, ids)
+}
+
+fn survey_into(width: usize, log: Log, volume: &[u8], ids: &mut [u64], out: &mut [u8]) {
     let geometry = log.geometry;
-    let answer = recovery::survey::survey(geometry, volume, ids);
+    let answer = survey_ids(width, geometry, volume, ids);
     let start = trace::pair(out, b"survey", survey_answer(answer), survey_count(answer));
     let stop = trace::words(out, start, ids);
     trace::end(out, stop);
 }
 
 fn survey(world: World, count: usize, volume: &[u8], out: &mut [u8]) -> World {
-    let mut ids = [4294967295u32; 4096];
+    let mut ids = [18446744073709551615u64; 4096];
     survey_into(
+        world.width,
         world.bench.log,
         volume,
-        text::front_words(&mut ids, count),
+        text::front_u64(&mut ids, count),
         out,
     );
     world
@@ -58,7 +90,7 @@ fn getters(world: World, out: &mut [u8]) -> World {
         return show::not_delivered(b"get", world, out);
     }
     let log = bench.log;
-    let size = match get::get_size(log) {
+    let size = match get::get_size(world.width, log) {
         Capacity::Bytes(bytes) => bytes,
         Capacity::Shape => 0,
     };

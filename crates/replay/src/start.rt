@@ -12,8 +12,8 @@ use stepping::world::Ended;
 use stepping::world::Step;
 
 // The buffers' length before the first restart: P where SHAPE admits P, else none.
-fn buffer_size(page_size: usize) -> usize {
-    if page_size < 16 {
+fn buffer_size(width: usize, page_size: usize) -> usize {
+    if page_size / 4 < width {
         return 0;
     }
     if 4096 < page_size {
@@ -41,12 +41,26 @@ fn mode_of(word: &[u8]) -> Mode {
     Mode::Bad
 }
 
-// `sizes P N FIRST MODE`
+// WIDTH, which is 4 where the line ends before it.
+fn width_of(line: &[u8]) -> Number {
+    if text::last(line, 4) {
+        return Number::Value(4);
+    }
+    let Number::Value(width) = text::value(text::word(line, 5)) else {
+        return Number::Bad;
+    };
+    match width {
+        4 | 8 => Number::Value(width),
+        _ => Number::Bad,
+    }
+}
+
+// `sizes P N FIRST MODE WIDTH`
 pub(crate) fn sizes(line: &[u8], world: World) -> World {
     if !text::same(text::word(line, 0), b"sizes") {
         return world::faulty(world, Fault::Place);
     }
-    if !text::last(line, 4) {
+    if !text::last(line, 5) {
         return world::faulty(world, Fault::Words);
     }
     let Number::Value(page_size) = text::limited(text::word(line, 1), 4294967295) else {
@@ -61,9 +75,13 @@ pub(crate) fn sizes(line: &[u8], world: World) -> World {
     let Mode::Circular(circular) = mode_of(text::word(line, 4)) else {
         return world::faulty(world, Fault::Word);
     };
+    let Number::Value(width) = width_of(line) else {
+        return world::faulty(world, Fault::Word);
+    };
     world::sized(
+        width,
         world::blank_log(page_size, page_count, first_page, circular),
-        buffer_size(page_size),
+        buffer_size(width, page_size),
     )
 }
 
@@ -199,6 +217,7 @@ fn run(
     let log = bench.log;
     let geometry = log.geometry;
     let step = stepping::power::restart(
+        world.width,
         geometry,
         log.circular,
         bench,

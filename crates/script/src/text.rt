@@ -204,9 +204,33 @@ pub fn front<'a>(buffer: &'a mut [u8], n: usize) -> &'a mut [u8] {
     buffer
 }
 
-pub fn front_words<'a>(buffer: &'a mut [u32], n: usize) -> &'a mut [u32] {
+// The same of words of 4 and of 8 bytes.
+pub fn front_u32<'a>(buffer: &'a mut [u32], n: usize) -> &'a mut [u32] {
     if n < buffer.len() {
         return &mut buffer[..n];
     }
     buffer
+}
+
+pub fn front_u64<'a>(buffer: &'a mut [u64], n: usize) -> &'a mut [u64] {
+    if n < buffer.len() {
+        return &mut buffer[..n];
+    }
+    buffer
+}
+
+fn wide(word: u32) -> u64 {
+    word as u64
+}
+
+// Words of 4 bytes go to the front of words of 8, as many as there is room for.
+pub fn widen(words: &[u32], out: &mut [u64]) {
+    let mut i: usize = 0;
+    while i < words.len() {
+        if out.len() <= i {
+            return;
+        }
+        out[i] = wide(words[i]);
+        i += 1;
+    }
 }
