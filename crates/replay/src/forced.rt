@@ -59,7 +59,16 @@ pub(crate) fn write(
     let geometry = log.geometry;
     let operation = bench.operation;
     match forced_write(world.hostile, operation, call) {
-        Forced::No => writes::run(world.width, geometry, bench, call, volume, page, hold, client),
+        Forced::No => writes::run(
+            world.width,
+            geometry,
+            bench,
+            call,
+            volume,
+            page,
+            hold,
+            client,
+        ),
         Forced::Complete(good, word) => writes::written(
             world.width,
             geometry.first_page,

@@ -35,12 +35,7 @@ fn survey_count(answer: Surveyed) -> usize {
 }
 
 // A survey of words of 4 bytes, which are then widened.
-fn survey_words(
-    geometry: Geometry,
-    volume: &[u8],
-    words: &mut [u32],
-    ids: &mut [u64],
-) -> Surveyed {
+fn survey_words(geometry: Geometry, volume: &[u8], words: &mut [u32], ids: &mut [u64]) -> Surveyed {
     let answer = recovery::survey::survey_u32(geometry, volume, words);
     text::widen(words, ids);
     answer

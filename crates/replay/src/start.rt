@@ -3,6 +3,8 @@ use crate::power;
 use crate::power::Ending;
 use crate::world;
 use crate::world::World;
+use log::check;
+use log::state::Geometry;
 use log::state::Log;
 use script::parse::Fault;
 use script::text;
@@ -13,16 +15,15 @@ use stepping::world::Step;
 
 // The buffers' length before the first restart: P where SHAPE admits P, else none.
 fn buffer_size(width: usize, page_size: usize) -> usize {
-    if page_size / 4 < width {
-        return 0;
+    let one_page = Geometry {
+        page_size,
+        page_count: 1,
+        first_page: 0,
+    };
+    if check::sizes_fit(width, one_page) {
+        return page_size;
     }
-    if 4096 < page_size {
-        return 0;
-    }
-    if 4096 % page_size != 0 {
-        return 0;
-    }
-    page_size
+    0
 }
 
 // `circular` or `plain`.
