@@ -1,11 +1,11 @@
--- `capi::get::punelovash_get_size` meets its contract.
+-- `capi::get::get_size` meets its contract.
 use mathlib.Core.Path.{sym, ap, _∙_}
 use Rattle.log.specs.Get.{capacityAnswer}
 use Rattle.capi.specs.Get.{bytesOf}
 use Rattle.capi.proofs.Blocks.{holds-none, holds}
 use borrow.Author.Needs.{needs}
-use Rattle.capi.proofs.get.punelovash_get_size.Statement.{statement}
-use Rattle.capi.proofs.get.punelovash_get_size.Tie as tie
+use Rattle.capi.proofs.get.get_size.Statement.{statement}
+use Rattle.capi.proofs.get.get_size.Tie as tie
 
 load-requires : tie.Need-load-requires
 load-requires c κs = search needs
@@ -28,22 +28,22 @@ enum-told-2 c = search needs
 returns : tie.Need-returns
 returns c =
     let a = c .before .before .before .before .args in
-    rw (holds-none (a .block .now) (c .before .before .load .ensures) (c .enum-told .given .1))
+    rw (holds-none (a .width) (a .block .now) (c .before .before .load .ensures) (c .enum-told .given .1))
 
 returns-2 : tie.Need-returns-2
 returns-2 c =
     let a = c .before .before .before .before .before .before .before .before .before .args in
     let size = sym (ap capacityAnswer (c .before .bytes .given .1)) ∙ c .before .before .before .get-size .ensures in
-    rw (holds (a .block .now) (c .before .before .before .before .before .before .before .load .ensures) (c .before .before .before .before .before .log .given .1)) (ap bytesOf size)
+    rw (holds (a .width) (a .block .now) (c .before .before .before .before .before .before .before .load .ensures) (c .before .before .before .before .before .log .given .1)) (ap bytesOf size)
 
 returns-3 : tie.Need-returns-3
 returns-3 c =
     let a = c .before .before .before .before .before .before .before .before .args in
     let size = sym (ap capacityAnswer (c .enum-told2 .given .1)) ∙ c .before .before .get-size .ensures in
-    rw (holds (a .block .now) (c .before .before .before .before .before .before .load .ensures) (c .before .before .before .before .log .given .1)) (ap bytesOf size)
+    rw (holds (a .width) (a .block .now) (c .before .before .before .before .before .before .load .ensures) (c .before .before .before .before .log .given .1)) (ap bytesOf size)
 
-pub punelovash-get-size-spec : {M : Type 1} → statement M
-punelovash-get-size-spec =
+pub get-size-spec : {M : Type 1} → statement M
+get-size-spec =
     tie.close
     (tie.spec
     load-requires

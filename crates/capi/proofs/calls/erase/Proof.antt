@@ -1,11 +1,11 @@
--- `capi::calls::punelovash_erase` meets its contract.
+-- `capi::calls::erase` meets its contract.
 use mathlib.Core.Path.{refl}
 use Rattle.capi.specs.Call.{no-log, runs}
 use Rattle.capi.proofs.Blocks.{holds-none, holds, loaded-size}
 use Rattle.capi.proofs.RoundTrip.{loaded-words}
 use borrow.Author.Needs.{needs}
-use Rattle.capi.proofs.calls.punelovash_erase.Statement.{statement}
-use Rattle.capi.proofs.calls.punelovash_erase.Tie as tie
+use Rattle.capi.proofs.calls.erase.Statement.{statement}
+use Rattle.capi.proofs.calls.erase.Tie as tie
 
 load-requires : tie.Need-load-requires
 load-requires c κs = search needs
@@ -22,15 +22,16 @@ word-from-requires c κs = search needs
 volume-length-requires : tie.Need-volume-length-requires
 volume-length-requires c κs =
     let a = c .before .before .before .before .before .before .before .args in
-    loaded-words (a .block .now) (λ i. c .before .before .before .before .before .before .slice-known .given i .fits) (holds (a .block .now) (c .before .before .before .before .load .ensures) (c .before .before .log .given .1))
+    loaded-words (a .width) (a .block .now) (λ i. c .before .before .before .before .before .before .slice-known .given i .fits) (holds (a .width) (a .block .now) (c .before .before .before .before .load .ensures) (c .before .before .log .given .1))
 
 erase-requires : tie.Need-erase-requires
 erase-requires c κs = search needs
 
 save-requires : tie.Need-save-requires
 save-requires c κs =
-    let a = c .before .before .before .before .before .before .before .before .before .before .args in
-    loaded-size (a .block .now) (holds (a .block .now) (c .before .before .before .before .before .before .before .load .ensures) (c .before .before .before .before .before .log .given .1))
+    let start = c .before .before .before .before .before .before .before .before .before .before in
+    let a = start .args in
+    (start .pre, loaded-size (a .width) (a .block .now) (holds (a .width) (a .block .now) (c .before .before .before .before .before .before .before .load .ensures) (c .before .before .before .before .before .log .given .1)))
 
 same-length : tie.Need-same-length
 same-length c = search needs
@@ -38,7 +39,7 @@ same-length c = search needs
 returns : tie.Need-returns
 returns c =
     let a = c .before .before .before .before .before .args in
-    no-log (holds-none (a .block .now) (c .before .before .load .ensures) (c .enum-told .given .1)) refl refl tt
+    no-log (holds-none (a .width) (a .block .now) (c .before .before .load .ensures) (c .enum-told .given .1)) refl refl tt
 
 same-length-2 : tie.Need-same-length-2
 same-length-2 c = search needs
@@ -48,13 +49,13 @@ returns-2 c =
     let a = c .before .before .before .before .before .before .before .before .before .before .before .before .before .args in
     let save = c .before .before .save .ensures in
     runs
-    (holds (a .block .now) (c .before .before .before .before .before .before .before .before .before .before .load .ensures) (c .before .before .before .before .before .before .before .before .log .given .1))
+    (holds (a .width) (a .block .now) (c .before .before .before .before .before .before .before .before .before .before .load .ensures) (c .before .before .before .before .before .before .before .before .log .given .1))
     (save .0)
     (save .1)
     (rw (c .before .before .before .before .before .volume-length .ensures, c .before .before .before .before .before .before .word-from .ensures) at (c .before .before .before .before .erase .ensures))
 
-pub punelovash-erase-spec : {M : Type 1} → statement M
-punelovash-erase-spec =
+pub erase-spec : {M : Type 1} → statement M
+erase-spec =
     tie.close
     (tie.spec
     load-requires

@@ -1,8 +1,8 @@
--- `capi::get::punelovash_log_end` meets its contract.
+-- `capi::get::log_end` meets its contract.
 use Rattle.capi.proofs.Blocks.{holds-none, holds}
 use borrow.Author.Needs.{needs}
-use Rattle.capi.proofs.get.punelovash_log_end.Statement.{statement}
-use Rattle.capi.proofs.get.punelovash_log_end.Tie as tie
+use Rattle.capi.proofs.get.log_end.Statement.{statement}
+use Rattle.capi.proofs.get.log_end.Tie as tie
 
 load-requires : tie.Need-load-requires
 load-requires c κs = search needs
@@ -19,13 +19,13 @@ log-end-requires c κs = search needs
 returns : tie.Need-returns
 returns c =
     let a = c .before .before .before .before .args in
-    rw (holds-none (a .block .now) (c .before .before .load .ensures) (c .enum-told .given .1))
+    rw (holds-none (a .width) (a .block .now) (c .before .before .load .ensures) (c .enum-told .given .1))
 
 returns-2 : tie.Need-returns-2
 returns-2 c =
     let a = c .before .before .before .before .before .before .args in
-    rw (holds (a .block .now) (c .before .before .before .before .load .ensures) (c .before .before .log .given .1)) (c .log-end .ensures)
+    rw (holds (a .width) (a .block .now) (c .before .before .before .before .load .ensures) (c .before .before .log .given .1)) (c .log-end .ensures)
 
-pub punelovash-log-end-spec : {M : Type 1} → statement M
-punelovash-log-end-spec =
+pub log-end-spec : {M : Type 1} → statement M
+log-end-spec =
     tie.close (tie.spec load-requires enum-told enum-known-log log-end-requires returns returns-2)

@@ -1,10 +1,10 @@
--- `capi::calls::punelovash_read` meets its contract.
+-- `capi::calls::read` meets its contract.
 use mathlib.Core.Path.{refl}
 use Rattle.capi.specs.Call.{no-log, runs}
 use Rattle.capi.proofs.Blocks.{holds-none, holds, loaded-size}
 use borrow.Author.Needs.{needs}
-use Rattle.capi.proofs.calls.punelovash_read.Statement.{statement}
-use Rattle.capi.proofs.calls.punelovash_read.Tie as tie
+use Rattle.capi.proofs.calls.read.Statement.{statement}
+use Rattle.capi.proofs.calls.read.Tie as tie
 
 load-requires : tie.Need-load-requires
 load-requires c κs = search needs
@@ -20,8 +20,9 @@ read-requires c κs = search needs
 
 save-requires : tie.Need-save-requires
 save-requires c κs =
-    let a = c .before .before .before .before .before .before .before .before .before .before .before .before .before .before .args in
-    loaded-size (a .block .now) (holds (a .block .now) (c .before .before .before .before .before .before .before .before .load .ensures) (c .before .before .before .before .before .before .log .given .1))
+    let start = c .before .before .before .before .before .before .before .before .before .before .before .before .before .before in
+    let a = start .args in
+    (start .pre, loaded-size (a .width) (a .block .now) (holds (a .width) (a .block .now) (c .before .before .before .before .before .before .before .before .load .ensures) (c .before .before .before .before .before .before .log .given .1)))
 
 same-length : tie.Need-same-length
 same-length c = search needs
@@ -29,7 +30,7 @@ same-length c = search needs
 returns : tie.Need-returns
 returns c =
     let a = c .before .before .before .before .before .before .before .before .args in
-    no-log (holds-none (a .block .now) (c .before .before .load .ensures) (c .enum-told .given .1)) refl refl refl
+    no-log (holds-none (a .width) (a .block .now) (c .before .before .load .ensures) (c .enum-told .given .1)) refl refl refl
 
 same-length-2 : tie.Need-same-length-2
 same-length-2 c = search needs
@@ -42,13 +43,13 @@ returns-2 c =
     let a = c .before .before .before .before .before .before .before .before .before .before .before .before .before .before .before .before .before .args in
     let save = c .before .before .save .ensures in
     runs
-    (holds (a .block .now) (c .before .before .before .before .before .before .before .before .before .before .before .load .ensures) (c .before .before .before .before .before .before .before .before .before .log .given .1))
+    (holds (a .width) (a .block .now) (c .before .before .before .before .before .before .before .before .before .before .before .load .ensures) (c .before .before .before .before .before .before .before .before .before .log .given .1))
     (save .0)
     (save .1)
     (c .before .before .before .before .before .before .read .ensures)
 
-pub punelovash-read-spec : {M : Type 1} → statement M
-punelovash-read-spec =
+pub read-spec : {M : Type 1} → statement M
+read-spec =
     tie.close
     (tie.spec
     load-requires
