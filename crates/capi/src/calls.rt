@@ -167,7 +167,15 @@ pub fn erase_complete(
         Loaded::Bad => STATE,
         Loaded::Log(log) => {
             let said = numbers::word_from(word);
-            let given = erasing::erase::erase_complete(width, log, volume, page, hold, good != 0, said);
+            let given = erasing::erase::erase_complete(
+                width,
+                log,
+                volume,
+                page,
+                hold,
+                good != 0,
+                said,
+            );
             block::save(width, given, block)
         }
     }
