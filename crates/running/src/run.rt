@@ -108,8 +108,9 @@ fn run_list(
     world
 }
 
-// Runs a list of events that is lent as bytes, restarts once more with the read client set, and reads to the first FAIL into `out`, each entry with its length before it, a word.
-// Reading ends before it where `out` has no room for a length and a page more: then `used` + `width` + P is more than its length. The list's own reads get `out` as their buffer.
+// Runs a list of events that is lent as bytes, restarts once more with the read client set, and reads to the first FAIL into `out`, each entry with its length
+// before it, a word. Reading ends before it where `out` has no room for a length and a page more: then `used` + `width` + P is more than its length.
+// The list's own reads get `out` as their buffer.
 pub fn run(
     width: usize,
     geometry: Geometry,
