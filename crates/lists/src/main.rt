@@ -1,6 +1,6 @@
 // Runs lists of events, read from standard input as bytes. Before each stand the width of a word (one byte) and how many bytes the list has (four bytes, the
-// lowest first). Each runs on a fresh volume of 4 pages of 8 words. A further restart then comes in the middle of whatever is under way, which leaves the old page.
-// Writes for each the oldest ID and the append ID that it found, how many entries were read, and their bytes with each length before them.
+// lowest first). Each runs on a fresh volume of 4 pages of 8 words. A further restart then comes in the middle of whatever is under way, which leaves the old
+// page. Writes for each the oldest ID and the append ID that it found, how many entries were read, and their bytes with each length before them.
 ghost use Prim.Native.Nat.{_≤_};
 ghost use lib.ListN.{length};
 use flash::operation::Erasure;

@@ -6,7 +6,6 @@ use crate::world::World;
 use flash::operation::Operation;
 use log::get;
 use log::get::Capacity;
-use log::state::Geometry;
 use log::state::Log;
 use log::state::State;
 use page::id::EntryID;
@@ -34,34 +33,9 @@ fn survey_count(answer: Surveyed) -> usize {
     }
 }
 
-// A survey of words of 4 bytes, which are then widened.
-fn survey_words(geometry: Geometry, volume: &[u8], words: &mut [u32], ids: &mut [u64]) -> Surveyed {
-    let answer = recovery::survey::survey_u32(geometry, volume, words);
-    text::widen(words, ids);
-    answer
-}
-
-fn survey_u32(geometry: Geometry, volume: &[u8], ids: &mut [u64]) -> Surveyed {
-    let mut words = [4294967295u32; 4096];
-    survey_words(
-        geometry,
-        volume,
-        text::front_u32(&mut words, ids.len()),
-        ids,
-    )
-}
-
-// A survey at either width.
-fn survey_ids(width: usize, geometry: Geometry, volume: &[u8], ids: &mut [u64]) -> Surveyed {
-    if width == 4 {
-        return survey_u32(geometry, volume, ids);
-    }
-    recovery::survey::survey_u64(geometry, volume, ids)
-}
-
 fn survey_into(width: usize, log: Log, volume: &[u8], ids: &mut [u64], out: &mut [u8]) {
     let geometry = log.geometry;
-    let answer = survey_ids(width, geometry, volume, ids);
+    let answer = script::survey::survey(width, geometry, volume, ids);
     let start = trace::pair(out, b"survey", survey_answer(answer), survey_count(answer));
     let stop = trace::words(out, start, ids);
     trace::end(out, stop);

@@ -218,19 +218,3 @@ pub fn front_u64<'a>(buffer: &'a mut [u64], n: usize) -> &'a mut [u64] {
     }
     buffer
 }
-
-fn wide(word: u32) -> u64 {
-    word as u64
-}
-
-// Words of 4 bytes go to the front of words of 8, as many as there is room for.
-pub fn widen(words: &[u32], out: &mut [u64]) {
-    let mut i: usize = 0;
-    while i < words.len() {
-        if out.len() <= i {
-            return;
-        }
-        out[i] = wide(words[i]);
-        i += 1;
-    }
-}

@@ -1,17 +1,17 @@
--- `script::text::widen` is safe and ends.
+-- `script::survey::narrow` is safe and ends.
 use Prim.Native.Nat.{_-_}
 use native.Mathlib.Omega.{arith}
 use mathlib.Core.Path.{_≡_}
 use lib.ListN.{length, length-set}
 use borrow.Author.Needs.{needs}
-use Rattle.script.proofs.text.widen.Statement.{statement}
-use Rattle.script.proofs.text.widen.Tie as tie
+use Rattle.script.proofs.survey.narrow.Statement.{statement}
+use Rattle.script.proofs.survey.narrow.Tie as tie
 
 abbrev Inv-loop : tie.InvT-loop
-Inv-loop words out₀ i₀ out i = length out ≡ length out₀
+Inv-loop ids words₀ i₀ words i = length words ≡ length words₀
 
 abbrev μ-loop : tie.MeasureT-loop
-μ-loop words out₀ i₀ out i = length words - i
+μ-loop ids words₀ i₀ words i = length ids - i
 
 loop-holds : tie.Need-loop-holds Inv-loop μ-loop
 loop-holds c = omega arith
@@ -22,20 +22,20 @@ same-length c = omega arith
 returns : tie.Need-returns Inv-loop μ-loop
 returns c = search needs
 
-mul-wide : tie.Need-mul-wide Inv-loop μ-loop
-mul-wide c = omega arith
+mul-low : tie.Need-mul-low Inv-loop μ-loop
+mul-low c = omega arith
 
-shared-slice-read-wide : tie.Need-shared-slice-read-wide Inv-loop μ-loop
-shared-slice-read-wide c = omega arith
+shared-slice-read-low : tie.Need-shared-slice-read-low Inv-loop μ-loop
+shared-slice-read-low c = omega arith
 
-wide-requires : tie.Need-wide-requires Inv-loop μ-loop
-wide-requires c κs = search needs
+low-requires : tie.Need-low-requires Inv-loop μ-loop
+low-requires c κs = search needs
 
-mul-out : tie.Need-mul-out Inv-loop μ-loop
-mul-out c = omega arith
+mul-words : tie.Need-mul-words Inv-loop μ-loop
+mul-words c = omega arith
 
-slice-write-out : tie.Need-slice-write-out Inv-loop μ-loop
-slice-write-out c = omega arith
+slice-write-words : tie.Need-slice-write-words Inv-loop μ-loop
+slice-write-words c = omega arith
 
 add-i : tie.Need-add-i Inv-loop μ-loop
 add-i c = omega arith
@@ -52,8 +52,8 @@ same-length-2 c = search needs
 returns-2 : tie.Need-returns-2 Inv-loop μ-loop
 returns-2 c = search needs
 
-pub widen-spec : {M : Type 1} → statement M
-widen-spec =
+pub narrow-spec : {M : Type 1} → statement M
+narrow-spec =
     tie.close
     (tie.spec
     Inv-loop
@@ -61,11 +61,11 @@ widen-spec =
     loop-holds
     same-length
     returns
-    mul-wide
-    shared-slice-read-wide
-    wide-requires
-    mul-out
-    slice-write-out
+    mul-low
+    shared-slice-read-low
+    low-requires
+    mul-words
+    slice-write-words
     add-i
     loop-less
     loop-again
