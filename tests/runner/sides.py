@@ -1,19 +1,10 @@
 """The two sides: a script run in a process of its own, and the oracle spoken to line by line."""
 
 import os
-import pathlib
 import select
 import signal
 import subprocess
 import time
-
-
-TARGET = pathlib.Path(__file__).resolve().parents[2] / "target"
-MACHINES = {4: "i686", 8: "x86_64"}  # by the bytes of a word
-
-
-def oracle_path(width):
-    return TARGET / f"oracle/{MACHINES[width]}-unknown-linux-gnu/release/oracle"
 
 
 class Stopped(Exception):
