@@ -101,6 +101,7 @@ def check_sizes(failures, width):
     sizes = small(width)
     check(failures, f"sizes at width {width}", (sizes.length, sizes.data_most, sizes.wrap) == (32 * width, 6 * width, 256**width))
     check(failures, f"a word at width {width}", sizes.word(258).hex() == "0201" + "00" * (width - 2) and sizes.word_at(b"\1" + sizes.word(258), 1) == 258)
+    check(failures, f"beyond 32 bits at width {width}", sizes.beyond_32_bits() == ([] if width == 4 else [4294967296]))
 
 
 def check_domain(failures, width):
@@ -118,9 +119,10 @@ def check_domain(failures, width):
     step("restart 1 1 = =", f"restart 0 - - ? {fresh} ? {page_of(sizes, '00')} ?")
     for line in ("write_complete ok new", "erase_complete ok blank ok", "erase ok", f"seek {width + 1}"):
         wants(line, False)
-    for line in (f"seek {width}", "read 32 -", "deferred", f"append {most} - ok"):
+    for line in (f"seek {width}", "read 32 -", "deferred", f"append {most} - ok", f"read {most} -"):
         wants(line, True)
-    wants(f"append {most + 1} - ok", False)
+    for line in (f"append {most + 1} - ok", f"read {most + 1} -"):
+        wants(line, False)
     step("append 20 - ok", f"append 0 append_done 20 0 0 - ? {end} ? {page} ?")
     step("sync ok", f"sync 0 - write 100 ? {end} ? {page} ?")
     for line, allowed in (("write_complete ok new", True), ("deferred", False), (f"seek {width}", False), ("append 1 00 ok", True)):
@@ -128,13 +130,34 @@ def check_domain(failures, width):
     step("write_complete fail new", f"write_complete 0 sync_done 1 - ? {end} ? {page} ?")
     check(failures, "what a write leaves", state.volume.hex() == page + "ff" * 3 * sizes.page_size)
     wants(f"seek {7 * width}", True)
-    state.page = page_of(sizes, 0, 5 * width, "07" * 5 * width, 1, "")  # in place of the padding, a length word whose data isn't in the page
     state.R, state.A = 7 * width, 10 * width + 1
-    state.volume = bytes.fromhex(state.page) + state.volume[sizes.page_size:]
-    wants("read 32 -", False)
-    state.R, state.A = ceiling - width, ceiling
+    for length, allowed in ((1, False), (6 * width, False), (6 * width + 1, True)):  # in place of the padding: the data isn't in the page, or is refused as too long
+        state.volume = bytes.fromhex(page_of(sizes, 0, 5 * width, "07" * 5 * width, length, "")) + state.volume[sizes.page_size:]
+        wants("read 32 -", allowed)
+    state.R = state.A = ceiling - 2 * width
+    for line, allowed in ((f"append {width} - ok", True), (f"append {width + 1} - ok", False), ("sync ok", True)):
+        wants(line, allowed)
+    state.A = ceiling - sizes.page_size - width
+    wants("append 1 00 ok", True)
+    state.A = ceiling
     wants("append 1 00 ok", False)
     wants("sync ok", False)
+
+
+def check_next_entry(failures, width):
+    """Where a read looks for an entry, on page 0 with padding, page 1 all 8s behind its header, and an empty page 3."""
+    sizes = small(width)
+    page_size = sizes.page_size
+    state = Tracker(sizes, bytes.fromhex(page_0(sizes) + page_of(sizes, page_size, 258, "08")) + bytes(2 * page_size))
+    state.A, state.page = 3 * page_size + width, page_of(sizes, 3 * page_size, "00")
+    eights = int("08" * width, 16)
+    for read, at, length in (
+        (0, width, 5 * width), (width, width, 5 * width), (7 * width, page_size + width, 258), (2 * page_size - width, 2 * page_size - width, eights),
+        (2 * page_size - width + 1, 2 * page_size - width + 1, None), (3 * page_size, None, None), (3 * page_size + width, None, None),
+    ):
+        state.R = read
+        found = state.next_entry()
+        check(failures, f"the next entry from {read} at width {width}: {found}", found == (at, length))
 
 
 def check_walk(failures, width):
@@ -152,6 +175,7 @@ def check_walk(failures, width):
     walk(False, 0, width + 1, "07" * (width + 1), "01", "00")  # leaves the volume
     walk(False, ceiling, "ff")
     walk(True, ceiling - sizes.page_size, 1, "07")
+    walk(True, ceiling - 2 * sizes.page_size, 2 * width, "07")
     walk(False, ceiling - sizes.page_size, 2 * width, "07")  # opens the page at the ceiling
 
 
@@ -241,6 +265,16 @@ def check_cut_counts(failures, width):
     found = dict(counts.cuts), counts.undelivered.total(), counts.gets, counts.written
     check(failures, f"cuts counted as {found}", found == ({"cut in write blank": 1, "restart with the power off": 1, "restart in write new": 1}, 1, 0, 1))
     check(failures, "cuts that are missing", len(counts.missing_cuts()) == len(CUTS) - 3 + len(BOOK) + 1)
+
+
+def check_opening(failures, width):
+    """The book opens pages below the ceiling, and of a plain log within the volume."""
+    last = LIMITS[width][1] // (8 * width) - 1
+    for mode, number, opened in (("circular", last - 1, last), ("circular", last, last), ("circular", 3, 4), ("plain", 2, 3), ("plain", 3, 3)):
+        book = Book(Sizes(8 * width, 4, 100, mode, width))
+        book.open = Page(number, ())
+        book.open_next()
+        check(failures, f"the book at width {width}, {mode}: page {book.open.number} after {number}", book.open.number == opened)
 
 
 def check_witness(failures, width):
@@ -401,7 +435,7 @@ def selftest():
     failures = []
     for part in (check_lines, check_traces, check_programs, check_shrinking, check_wants):
         part(failures)
-    for part in (check_sizes, check_domain, check_walk, check_cuts_in_domain, check_cut_counts, check_witness):
+    for part in (check_sizes, check_domain, check_next_entry, check_walk, check_cuts_in_domain, check_cut_counts, check_opening, check_witness):
         for width in WIDTHS:
             part(failures, width)
     return failures
