@@ -104,44 +104,59 @@ def check_sizes(failures, width):
     check(failures, f"beyond 32 bits at width {width}", sizes.beyond_32_bits() == ([] if width == 4 else [4294967296]))
 
 
+def check_allowed(failures, state, allowed, *lines):
+    """That the domain allows each line now, or doesn't."""
+    for line in lines:
+        check(failures, f"'{line}' at width {state.sizes.width}: allowed is {not allowed}", state.allows(line) == allowed)
+
+
+def fresh_tracker(sizes):
+    return Tracker(sizes, b"\xff" * sizes.length)
+
+
 def check_domain(failures, width):
-    sizes, page = small(width), page_0(small(width))
-    state = Tracker(sizes, b"\xff" * sizes.length)
-    most, ceiling = LIMITS[width]
+    sizes, most = small(width), LIMITS[width][0]
+    state, page = fresh_tracker(sizes), page_0(sizes)
     fresh, end = f"{width} {width} {width}", f"{width} {width} {7 * width}"  # O, R and A
 
     def step(line, trace):
         state.update(line, parse(trace))
 
-    def wants(line, allowed):
-        check(failures, f"'{line}' at width {width}: allowed is {not allowed}", state.allows(line) == allowed)
-
     step("restart 1 1 = =", f"restart 0 - - ? {fresh} ? {page_of(sizes, '00')} ?")
-    for line in ("write_complete ok new", "erase_complete ok blank ok", "erase ok", f"seek {width + 1}"):
-        wants(line, False)
-    for line in (f"seek {width}", "read 32 -", "deferred", f"append {most} - ok", f"read {most} -"):
-        wants(line, True)
-    for line in (f"append {most + 1} - ok", f"read {most + 1} -"):
-        wants(line, False)
+    check_allowed(failures, state, False, "write_complete ok new", "erase_complete ok blank ok", "erase ok", f"seek {width + 1}")
+    check_allowed(failures, state, True, f"seek {width}", "read 32 -", "deferred", f"append {most} - ok", f"read {most} -")
+    check_allowed(failures, state, False, f"append {most + 1} - ok", f"read {most + 1} -")
     step("append 20 - ok", f"append 0 append_done 20 0 0 - ? {end} ? {page} ?")
     step("sync ok", f"sync 0 - write 100 ? {end} ? {page} ?")
-    for line, allowed in (("write_complete ok new", True), ("deferred", False), (f"seek {width}", False), ("append 1 00 ok", True)):
-        wants(line, allowed)
+    check_allowed(failures, state, True, "write_complete ok new", "append 1 00 ok")
+    check_allowed(failures, state, False, "deferred", f"seek {width}")
     step("write_complete fail new", f"write_complete 0 sync_done 1 - ? {end} ? {page} ?")
     check(failures, "what a write leaves", state.volume.hex() == page + "ff" * 3 * sizes.page_size)
-    wants(f"seek {7 * width}", True)
-    state.R, state.A = 7 * width, 10 * width + 1
-    for length, allowed in ((1, False), (6 * width, False), (6 * width + 1, True)):  # in place of the padding: the data isn't in the page, or is refused as too long
-        state.volume = bytes.fromhex(page_of(sizes, 0, 5 * width, "07" * 5 * width, length, "")) + state.volume[sizes.page_size:]
-        wants("read 32 -", allowed)
-    state.R = state.A = ceiling - 2 * width
-    for line, allowed in ((f"append {width} - ok", True), (f"append {width + 1} - ok", False), ("sync ok", True)):
-        wants(line, allowed)
+    check_allowed(failures, state, True, f"seek {7 * width}")
+
+
+def check_ceiling(failures, width):
+    sizes, ceiling = small(width), LIMITS[width][1]
+    state = fresh_tracker(sizes)
+    state.flash.off = False
+    state.A = ceiling - 2 * width
+    check_allowed(failures, state, True, f"append {width} - ok", "sync ok")
+    check_allowed(failures, state, False, f"append {width + 1} - ok")
     state.A = ceiling - sizes.page_size - width
-    wants("append 1 00 ok", True)
+    check_allowed(failures, state, True, "append 1 00 ok")
     state.A = ceiling
-    wants("append 1 00 ok", False)
-    wants("sync ok", False)
+    check_allowed(failures, state, False, "append 1 00 ok", "sync ok")
+
+
+def check_reads(failures, width):
+    """Where page 0 has its padding there is a length word: its data isn't in the page, or it is refused as too long."""
+    sizes = small(width)
+    for length, allowed in ((1, False), (6 * width, False), (6 * width + 1, True)):
+        page = page_of(sizes, 0, 5 * width, "07" * 5 * width, length, "")
+        state = Tracker(sizes, bytes.fromhex(page) + b"\xff" * 3 * sizes.page_size)
+        state.flash.off = False
+        state.R, state.A = 7 * width, 10 * width + 1
+        check_allowed(failures, state, allowed, "read 32 -")
 
 
 def check_next_entry(failures, width):
@@ -227,11 +242,8 @@ def cut_list(sizes, *changes):
 
 
 def check_cuts_in_domain(failures, width):
-    sizes, page = small(width), page_0(small(width))
-    state = Tracker(sizes, b"\xff" * sizes.length)
-
-    def wants(line, allowed):
-        check(failures, f"'{line}' at width {width}: allowed is {not allowed}", state.allows(line) == allowed)
+    sizes = small(width)
+    state, page, others = fresh_tracker(sizes), page_0(sizes), "ff" * 3 * sizes.page_size
 
     def step(line, trace):
         state.update(line, parse(trace))
@@ -239,23 +251,21 @@ def check_cuts_in_domain(failures, width):
     lines, trace = cut_list(sizes)
     for line, text in zip(lines[2:5], trace):
         step(line, text)
-    for line, allowed in [("restart 1 1 = =", False), ("restart 1 1 = = new", True), ("cut new", True), (f"seek {width}", False)]:
-        wants(line, allowed)
+    check_allowed(failures, state, True, "restart 1 1 = = new", "cut new")
+    check_allowed(failures, state, False, "restart 1 1 = =", f"seek {width}")
     blank = state.copy()
     blank.update("cut blank", None)
     state.update("cut new", None)
-    others = "ff" * 3 * sizes.page_size
     check(failures, "what a cut leaves", (state.volume.hex(), blank.volume.hex()) == (page + others, "ff" * sizes.length))
-    for line in ("restart 1 1 = =", "restart 1 1 = = old", "cut new", "write_complete ok new", "deferred", "seek 5", "erase ok"):
-        wants(line, True)
+    check_allowed(failures, state, True, "restart 1 1 = =", "restart 1 1 = = old", "cut new", "write_complete ok new", "deferred", "seek 5", "erase ok")
     state.volume = bytes.fromhex(page_of(sizes, 0, 256**width - width, "07") + others)  # the walk wraps
-    wants("restart 1 1 = =", False)
-    wants("get", True)
+    check_allowed(failures, state, False, "restart 1 1 = =")
+    check_allowed(failures, state, True, "get")
     full = f"? {width} {width} {9 * width} ? {page} ?"
     step("restart 1 1 = =", f"restart 0 - - {full}")
     step("erase ok", f"erase 0 - erase 100 {full}")
-    for line, allowed in [("cut new", False), ("cut old", True), ("restart 1 1 = = new", False), ("restart 1 1 = = old", False), ("restart 1 1 = = blank", True)]:
-        wants(line, allowed)
+    check_allowed(failures, state, True, "cut old", "restart 1 1 = = blank")
+    check_allowed(failures, state, False, "cut new", "restart 1 1 = = new", "restart 1 1 = = old")
 
 
 def check_cut_counts(failures, width):
@@ -435,7 +445,10 @@ def selftest():
     failures = []
     for part in (check_lines, check_traces, check_programs, check_shrinking, check_wants):
         part(failures)
-    for part in (check_sizes, check_domain, check_next_entry, check_walk, check_cuts_in_domain, check_cut_counts, check_opening, check_witness):
+    for part in (
+        check_sizes, check_domain, check_ceiling, check_reads, check_next_entry, check_walk, check_cuts_in_domain, check_cut_counts, check_opening,
+        check_witness,
+    ):
         for width in WIDTHS:
             part(failures, width)
     return failures
