@@ -48,7 +48,7 @@ fn timed<S: Side>(row: &Row, logs: &mut [S]) -> Duration {
     took
 }
 
-/// Makes so many measurements.
+/// Makes so many measurements, and says how long they took.
 type Timer<'a> = Box<dyn FnMut(usize) -> Duration + 'a>;
 
 fn timer<'a, S: Side + 'a>(row: &'a Row) -> Timer<'a> {

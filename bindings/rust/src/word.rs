@@ -5,9 +5,15 @@ use core::fmt::Debug;
 use core::marker::PhantomData;
 use core::mem::size_of;
 
-/// The word of a board: `u32` or `u64`. A page's header and an entry's length are a word each. A volume is opened with the
-/// words of the board that wrote it: nothing on it tells them.
-pub trait Word: Library + Copy + Debug + Ord + From<u32> + Into<u64> {
+mod sealed {
+    pub trait Sealed {}
+    impl Sealed for u32 {}
+    impl Sealed for u64 {}
+}
+
+/// The word of a board: `u32` or `u64`, and no other type. A page's header and an entry's length are a word each. A volume is
+/// opened with the words of the board that wrote it: nothing on it tells them.
+pub trait Word: sealed::Sealed + Library + Copy + Debug + Ord + From<u32> + Into<u64> {
     /// The bytes of a word, w: 4 or 8.
     const BYTES: usize = size_of::<Self>();
 
