@@ -1,10 +1,10 @@
--- `script::text::front_words` is safe.
+-- `script::text::front_u32` is safe.
 use mathlib.Core.Path.{sym}
 use native.Mathlib.Omega.{arith}
 use lib.Seq.{length-take-le}
 use borrow.Author.Needs.{needs}
-use Rattle.script.proofs.text.front_words.Statement.{statement}
-use Rattle.script.proofs.text.front_words.Tie as tie
+use Rattle.script.proofs.text.front_u32.Statement.{statement}
+use Rattle.script.proofs.text.front_u32.Tie as tie
 
 slice-aggregate-result : tie.Need-slice-aggregate-result
 slice-aggregate-result c = sym (length-take-le (c .before .before .args .n) (c .before .before .args .buffer .now) (omega arith))
@@ -15,5 +15,5 @@ returns c = search needs
 returns-2 : tie.Need-returns-2
 returns-2 c = search needs
 
-pub front-words-spec : {M : Type 1} → statement M
-front-words-spec = tie.close (tie.spec slice-aggregate-result returns returns-2)
+pub front-u32-spec : {M : Type 1} → statement M
+front-u32-spec = tie.close (tie.spec slice-aggregate-result returns returns-2)
