@@ -1,15 +1,32 @@
 /*
- * Punelovash: a log on flash memory, for C99 and C++. Link libcapi.a (x86-64).
+ * Punelovash: a log on flash memory, for C99 and C++. It is there for two boards, which differ in their words:
  *
- * "Document 01" is the definition of the log. An entry ID counts bytes from the log's beginning. P is the page size, N the
- * page count, L = N * P, C = 1,879,048,192; O, R and A are the oldest, the read and the append ID.
+ *                     4-byte words       8-byte words
+ *     functions       punelovash_..      punelovash8_..
+ *     link (x86-64)   libpunelovash.a    libpunelovash8.a
+ *     w               4                  8                     bytes of a word: a page's header, an entry's length
+ *     P               16 to 4,096        32 to 4,096           the page size, a power of two
+ *     data            1 to P - 8         1 to P - 16           bytes of an entry: at most P - 2w
+ *     capacity        L - 4N             L - 8N                the volume without its headers: L - wN
+ *     C               1,879,048,192      0x7000000000000000    the ceiling: no page begins at C
+ *     entry IDs       size_t             uint64_t
+ *     block           44 bytes           56 bytes              32 + 3w
+ *
+ * A program links the archive of its board; it may link both. A volume is opened by the functions of the board that wrote it:
+ * nothing on it tells the width. All else is the same, and said here once: w and C are the board's own, and for punelovash_,
+ * PUNELOVASH_BLOCK_SIZE and PUNELOVASH_AT_ the 8-byte board has punelovash8_, PUNELOVASH8_BLOCK_SIZE and PUNELOVASH8_AT_. The
+ * other constants are for both.
+ *
+ * "Document 01" is the definition of the log. An entry ID counts bytes from the log's beginning. N is the page count, L = N * P;
+ * O, R and A are the oldest, the read and the append ID.
  *
  * What is lent
  * ------------
  * Every buffer is lent for one call, as a pointer and a length in bytes. The library keeps no pointer, allocates nothing and
  * has no data of its own; each block is a log, and two threads may use two blocks.
  *
- *     block    44 bytes: the log, and what the last call gave (layout below). No alignment is needed. Only the library writes it.
+ *     block    PUNELOVASH_BLOCK_SIZE bytes: the log, and what the last call gave (layout below). No alignment is needed. Only
+ *              the library writes it.
  *     volume   the flash of the log, L bytes, readable as memory. It is never written through this pointer: the caller's driver writes it.
  *     page     the page buffer, P bytes: the newest page, before it is on flash.
  *     hold     the hold buffer, P bytes: an append's data, while the page before it is written.
@@ -24,7 +41,7 @@
  * Answers
  * -------
  * A call returns its answer and leaves in the block the log, at most one report and at most one flash request: each call
- * replaces those of the call before. "As before" is the log (bytes 0 to 31 of the block) and every other byte lent.
+ * replaces those of the call before. "As before" is the log (the block up to PUNELOVASH_AT_REPORT) and every other byte lent.
  *
  *     number     left behind  when
  *     0 OK
@@ -35,13 +52,13 @@
  *     7 SIZE     as before    the entry is too long for a page or for a read's length; more page IDs than a survey has room for
  *     8 CANCEL   R = O        a read with R > A
  *     20 SHAPE   as before    sizes that aren't allowed, or a volume, page or hold of another length where it is lent
- *     21 STATE   as before    the block holds no log: not 44 bytes, flags above 7, a state above 5, or IDs or a length that are no log's
+ *     21 STATE   as before    the block holds no log: of another length, flags above 7, a state above 5, or IDs or a length that are no log's
  *     22 STRAY   as before    a completion or a deferred call that isn't due
  *     23 LIMIT   as before    an append that needs a page at C
  *
  * What the driver's word leaves is said at each call. SHAPE, STATE and STRAY come before all else; a block of another length
- * or with such flags or state is refused as STATE before SHAPE. After 20 and 21 there is no report and no request, but bytes
- * 32 to 43 of the block may still be those of an earlier call: look at the answer first.
+ * or with such flags or state is refused as STATE before SHAPE. After 20 and 21 there is no report and no request, but the
+ * block from PUNELOVASH_AT_REPORT on may still be that of an earlier call: look at the answer first.
  *
  * How the flash is driven
  * -----------------------
@@ -64,9 +81,9 @@
  *       good = 0: document 01 knows this as an operation that failed and left the old page. The log is Idle again, and the
  *       report says FAIL. A driver that refuses nothing while it is idle never comes to this, as the log asks for one
  *       operation at a time.
- *   (b) Copy the block's 44 bytes before the call. Give 0, and start the operation that is requested. If the driver refuses
- *       to start it, put the copy back and make the same call again with the driver's word. This gives exactly what document
- *       01 says of that word: the page and hold buffers are left alike whatever the word.
+ *   (b) Copy the block before the call. Give 0, and start the operation that is requested. If the driver refuses to start
+ *       it, put the copy back and make the same call again with the driver's word. This gives exactly what document 01 says of
+ *       that word: the page and hold buffers are left alike whatever the word.
  *
  * (a) suits every driver. By (b) a refusal of append or sync is the call's answer, the log is Idle and no completion is due. A
  * refusal of erase leaves the log in Erase with nothing under way, and then only a restart leads on: by (a) it doesn't.
@@ -106,23 +123,43 @@ extern "C" {
 #define PUNELOVASH_WORD_FAIL 1u
 #define PUNELOVASH_WORD_BUSY 2u
 
-/* The block: 44 bytes. Words are 4 bytes, the lowest first. Bytes 13 and 14 are not used: no call looks at them or writes them. */
+/*
+ * The block, and where its numbers stand in it, the lowest byte first: for each the 4-byte board's place, then the 8-byte
+ * board's. Only the IDs are words. On the 8-byte board they take twice the room, so what follows them stands 12 bytes further
+ * on. Bytes 13 and 14 are not used: no call looks at them or writes them.
+ */
 #define PUNELOVASH_BLOCK_SIZE 44u
-#define PUNELOVASH_AT_PAGE_SIZE 0u      /* word: P */
-#define PUNELOVASH_AT_PAGE_COUNT 4u     /* word: N */
-#define PUNELOVASH_AT_FIRST_PAGE 8u     /* word: the first flash page number */
-#define PUNELOVASH_AT_FLAGS 12u         /* byte: the sum of the flags that are set */
-#define PUNELOVASH_AT_STATE 15u         /* byte: see the states */
-#define PUNELOVASH_AT_OLDEST 16u        /* word: O */
-#define PUNELOVASH_AT_READ 20u          /* word: R */
-#define PUNELOVASH_AT_APPEND 24u        /* word: A */
-#define PUNELOVASH_AT_KEPT 28u          /* word: the length of the entry under way, or last read or appended */
-#define PUNELOVASH_AT_REPORT 32u        /* byte: see the reports */
-#define PUNELOVASH_AT_REPORT_LOST 33u   /* byte: 0 or 1 */
-#define PUNELOVASH_AT_REPORT_RESULT 34u /* byte: an answer */
-#define PUNELOVASH_AT_REQUEST 35u       /* byte: see the requests */
-#define PUNELOVASH_AT_REPORT_LENGTH 36u /* word */
-#define PUNELOVASH_AT_REQUEST_PAGE 40u  /* word: a flash page number */
+#define PUNELOVASH8_BLOCK_SIZE 56u
+#define PUNELOVASH_AT_PAGE_SIZE 0u        /* 4 bytes: P */
+#define PUNELOVASH8_AT_PAGE_SIZE 0u
+#define PUNELOVASH_AT_PAGE_COUNT 4u       /* 4 bytes: N */
+#define PUNELOVASH8_AT_PAGE_COUNT 4u
+#define PUNELOVASH_AT_FIRST_PAGE 8u       /* 4 bytes: the first flash page number */
+#define PUNELOVASH8_AT_FIRST_PAGE 8u
+#define PUNELOVASH_AT_FLAGS 12u           /* a byte: the sum of the flags that are set */
+#define PUNELOVASH8_AT_FLAGS 12u
+#define PUNELOVASH_AT_STATE 15u           /* a byte: see the states */
+#define PUNELOVASH8_AT_STATE 15u
+#define PUNELOVASH_AT_OLDEST 16u          /* a word: O */
+#define PUNELOVASH8_AT_OLDEST 16u
+#define PUNELOVASH_AT_READ 20u            /* a word: R */
+#define PUNELOVASH8_AT_READ 24u
+#define PUNELOVASH_AT_APPEND 24u          /* a word: A */
+#define PUNELOVASH8_AT_APPEND 32u
+#define PUNELOVASH_AT_KEPT 28u            /* 4 bytes: the length of the entry under way, or last read or appended */
+#define PUNELOVASH8_AT_KEPT 40u
+#define PUNELOVASH_AT_REPORT 32u          /* a byte: see the reports */
+#define PUNELOVASH8_AT_REPORT 44u
+#define PUNELOVASH_AT_REPORT_LOST 33u     /* a byte: 0 or 1 */
+#define PUNELOVASH8_AT_REPORT_LOST 45u
+#define PUNELOVASH_AT_REPORT_RESULT 34u   /* a byte: an answer */
+#define PUNELOVASH8_AT_REPORT_RESULT 46u
+#define PUNELOVASH_AT_REQUEST 35u         /* a byte: see the requests */
+#define PUNELOVASH8_AT_REQUEST 47u
+#define PUNELOVASH_AT_REPORT_LENGTH 36u   /* 4 bytes */
+#define PUNELOVASH8_AT_REPORT_LENGTH 48u
+#define PUNELOVASH_AT_REQUEST_PAGE 40u    /* 4 bytes: a flash page number */
+#define PUNELOVASH8_AT_REQUEST_PAGE 52u
 
 /* Flags: a restart's circular, read_client and append_client that weren't 0. */
 #define PUNELOVASH_CIRCULAR 1u
@@ -139,7 +176,7 @@ extern "C" {
 
 /* Reports. Every report leaves the log Idle. */
 #define PUNELOVASH_NO_REPORT 0u
-#define PUNELOVASH_APPEND_DONE 1u /* length; lost: O isn't 4, so entries were overwritten or erased; result OK, or FAIL or CANCEL with length 0 */
+#define PUNELOVASH_APPEND_DONE 1u /* length; lost: O isn't w, so entries were overwritten or erased; result OK, or FAIL or CANCEL with length 0 */
 #define PUNELOVASH_SYNC_DONE 2u   /* result OK or FAIL */
 #define PUNELOVASH_ERASE_DONE 3u  /* result OK, FAIL or BUSY */
 #define PUNELOVASH_READ_DONE 4u   /* length; result OK */
@@ -150,12 +187,18 @@ extern "C" {
 #define PUNELOVASH_WRITE 1u
 #define PUNELOVASH_ERASE 2u
 
-/* Readers of a block of 44 bytes. */
+/* The number of 4 bytes, and of 8, at a place in a block. */
 static inline uint32_t punelovash_word_at(const uint8_t *block, size_t at)
 {
     return (uint32_t)block[at] | (uint32_t)block[at + 1] << 8 | (uint32_t)block[at + 2] << 16 | (uint32_t)block[at + 3] << 24;
 }
 
+static inline uint64_t punelovash8_word_at(const uint8_t *block, size_t at)
+{
+    return punelovash_word_at(block, at) | (uint64_t)punelovash_word_at(block, at + 4) << 32;
+}
+
+/* Readers of a block. */
 static inline uint8_t punelovash_state(const uint8_t *block) { return block[PUNELOVASH_AT_STATE]; }
 static inline uint8_t punelovash_report(const uint8_t *block) { return block[PUNELOVASH_AT_REPORT]; }
 static inline uint8_t punelovash_report_lost(const uint8_t *block) { return block[PUNELOVASH_AT_REPORT_LOST]; }
@@ -164,16 +207,24 @@ static inline uint32_t punelovash_report_length(const uint8_t *block) { return p
 static inline uint8_t punelovash_request(const uint8_t *block) { return block[PUNELOVASH_AT_REQUEST]; }
 static inline uint32_t punelovash_request_page(const uint8_t *block) { return punelovash_word_at(block, PUNELOVASH_AT_REQUEST_PAGE); }
 
+static inline uint8_t punelovash8_state(const uint8_t *block) { return block[PUNELOVASH8_AT_STATE]; }
+static inline uint8_t punelovash8_report(const uint8_t *block) { return block[PUNELOVASH8_AT_REPORT]; }
+static inline uint8_t punelovash8_report_lost(const uint8_t *block) { return block[PUNELOVASH8_AT_REPORT_LOST]; }
+static inline uint8_t punelovash8_report_result(const uint8_t *block) { return block[PUNELOVASH8_AT_REPORT_RESULT]; }
+static inline uint32_t punelovash8_report_length(const uint8_t *block) { return punelovash_word_at(block, PUNELOVASH8_AT_REPORT_LENGTH); }
+static inline uint8_t punelovash8_request(const uint8_t *block) { return block[PUNELOVASH8_AT_REQUEST]; }
+static inline uint32_t punelovash8_request_page(const uint8_t *block) { return punelovash_word_at(block, PUNELOVASH8_AT_REQUEST_PAGE); }
+
 /*
  * Makes the block a log: what the volume holds is found, and nothing else is carried over. The first call, and the call after
  * a power cut.
- *   page_size     P, a power of two from 16 to 4,096
+ *   page_size     P, a power of two from 4w to 4,096
  *   page_count    N, 1 to 4,096
  *   first_page    the flash page number of the volume's first page, at most 16,777,215
  *   circular      0: a plain log, which is full after N pages; else the oldest page makes room
  *   read_client, append_client    0: the calls of that client are refused as RESERVE
- * Answers OK, SHAPE, or STATE if the block isn't 44 bytes. On OK the log is Idle, O = R, and the page buffer holds the newest
- * page. An empty volume gives O = R = A = 4. Refused: block and page are as before.
+ * Answers OK, SHAPE, or STATE if the block has another length. On OK the log is Idle, O = R, and the page buffer holds the
+ * newest page. An empty volume gives O = R = A = w. Refused: block and page are as before.
  */
 uint32_t punelovash_restart(uint8_t *block, size_t block_length,
                             uint32_t page_size, uint32_t page_count, uint32_t first_page,
@@ -181,12 +232,18 @@ uint32_t punelovash_restart(uint8_t *block, size_t block_length,
                             const uint8_t *volume, size_t volume_length,
                             uint8_t *page, size_t page_length,
                             const uint8_t *hold, size_t hold_length);
+uint32_t punelovash8_restart(uint8_t *block, size_t block_length,
+                             uint32_t page_size, uint32_t page_count, uint32_t first_page,
+                             uint8_t circular, uint8_t read_client, uint8_t append_client,
+                             const uint8_t *volume, size_t volume_length,
+                             uint8_t *page, size_t page_length,
+                             const uint8_t *hold, size_t hold_length);
 
 /*
- * Appends the first `length` bytes of `data`, 1 to P - 8 of them. Its ID is A, or where the page has no room for it 4 after
+ * Appends the first `length` bytes of `data`, 1 to P - 2w of them. Its ID is A, or where the page has no room for it w after
  * the next page's beginning.
- * Answers, in this order: SHAPE, STATE, BUSY; INVAL (length 0, or above data_length), SIZE (length + 8 > P), FAIL (a plain
- * log without room: A + length + 4 > L), LIMIT, RESERVE (no append client); then OK, or the driver's word.
+ * Answers, in this order: SHAPE, STATE, BUSY; INVAL (length 0, or above data_length), SIZE (length + 2w > P), FAIL (a plain
+ * log without room: A + length + w > L), LIMIT, RESERVE (no append client); then OK, or the driver's word.
  *   It fits in the page: it is stored in the page buffer, and append_done(length, lost, OK) is reported by this call.
  *   Otherwise the data is copied to the hold buffer, the page buffer's tail is padded and a write of it is requested; where
  *   this takes the place of the oldest page, O and R move past that. State Append; punelovash_write_complete reports.
@@ -199,6 +256,12 @@ uint32_t punelovash_append(uint8_t *block, size_t block_length,
                            uint8_t *hold, size_t hold_length,
                            const uint8_t *data, size_t data_length,
                            size_t length, uint8_t word);
+uint32_t punelovash8_append(uint8_t *block, size_t block_length,
+                            const uint8_t *volume, size_t volume_length,
+                            uint8_t *page, size_t page_length,
+                            uint8_t *hold, size_t hold_length,
+                            const uint8_t *data, size_t data_length,
+                            size_t length, uint8_t word);
 
 /*
  * Reads the entry at R, of at most `length` bytes, to the front of `buffer`; its other bytes stay.
@@ -212,6 +275,11 @@ uint32_t punelovash_read(uint8_t *block, size_t block_length,
                          const uint8_t *page, size_t page_length,
                          uint8_t *buffer, size_t buffer_length,
                          size_t length);
+uint32_t punelovash8_read(uint8_t *block, size_t block_length,
+                          const uint8_t *volume, size_t volume_length,
+                          const uint8_t *page, size_t page_length,
+                          uint8_t *buffer, size_t buffer_length,
+                          size_t length);
 
 /*
  * R becomes entry_id, which should be one that log_start, log_end or next_read_entry_id has given.
@@ -219,10 +287,11 @@ uint32_t punelovash_read(uint8_t *block, size_t block_length,
  * punelovash_deferred_call reports seek_done(OK).
  */
 uint32_t punelovash_seek(uint8_t *block, size_t block_length, size_t entry_id);
+uint32_t punelovash8_seek(uint8_t *block, size_t block_length, uint64_t entry_id);
 
 /*
  * Writes the page buffer to flash, so that what was appended outlasts a power cut.
- * Answers, in this order: SHAPE, STATE; OK with no report and no request where A mod P = 4 (the page has no entry), even when
+ * Answers, in this order: SHAPE, STATE; OK with no report and no request where A mod P = w (the page has no entry), even when
  * busy; BUSY, RESERVE (no append client); then OK, or the driver's word. The page buffer's tail is padded and a write of it is
  * requested, also where nothing was appended since the last sync; O and R may move as by append. State Sync;
  * punelovash_write_complete reports sync_done.
@@ -233,6 +302,11 @@ uint32_t punelovash_sync(uint8_t *block, size_t block_length,
                          uint8_t *page, size_t page_length,
                          const uint8_t *hold, size_t hold_length,
                          uint8_t word);
+uint32_t punelovash8_sync(uint8_t *block, size_t block_length,
+                          const uint8_t *volume, size_t volume_length,
+                          uint8_t *page, size_t page_length,
+                          const uint8_t *hold, size_t hold_length,
+                          uint8_t word);
 
 /*
  * Erases the log, page by page from the oldest.
@@ -241,6 +315,7 @@ uint32_t punelovash_sync(uint8_t *block, size_t block_length,
  * The driver's refusal is the answer AND LEAVES STATE ERASE, with nothing under way: see (a) above.
  */
 uint32_t punelovash_erase(uint8_t *block, size_t block_length, uint8_t word);
+uint32_t punelovash8_erase(uint8_t *block, size_t block_length, uint8_t word);
 
 /*
  * The write that was requested has ended: well, or it failed (good 0).
@@ -255,11 +330,16 @@ uint32_t punelovash_write_complete(uint8_t *block, size_t block_length,
                                    uint8_t *page, size_t page_length,
                                    const uint8_t *hold, size_t hold_length,
                                    uint8_t good);
+uint32_t punelovash8_write_complete(uint8_t *block, size_t block_length,
+                                    const uint8_t *volume, size_t volume_length,
+                                    uint8_t *page, size_t page_length,
+                                    const uint8_t *hold, size_t hold_length,
+                                    uint8_t good);
 
 /*
  * The erase that was requested has ended: well, or it failed (good 0). `word` is for the next one.
  * Answers SHAPE, STATE, STRAY (the state isn't Erase) or OK; the driver's word is never the answer here.
- *   Well, and it was the last page: O = R = A = 4, page buffer all 0, Idle, erase_done(OK).
+ *   Well, and it was the last page: O = R = A = w, page buffer all 0, Idle, erase_done(OK).
  *   Well, and more pages are left: O moves to the next page and its erase is requested; no report, state Erase. The word
  *   BUSY: R is at least the former O, erase_done(BUSY), Idle. The word FAIL: no report, state Erase with nothing under way:
  *   see (a) above.
@@ -271,12 +351,18 @@ uint32_t punelovash_erase_complete(uint8_t *block, size_t block_length,
                                    uint8_t *page, size_t page_length,
                                    const uint8_t *hold, size_t hold_length,
                                    uint8_t good, uint8_t word);
+uint32_t punelovash8_erase_complete(uint8_t *block, size_t block_length,
+                                    const uint8_t *volume, size_t volume_length,
+                                    uint8_t *page, size_t page_length,
+                                    const uint8_t *hold, size_t hold_length,
+                                    uint8_t good, uint8_t word);
 
 /*
  * Ends a read or a seek: reports read_done(length, OK) or seek_done(OK), then Idle. In Idle it does nothing.
  * Answers SHAPE, STATE, STRAY (the state is Append, Sync or Erase) or OK.
  */
 uint32_t punelovash_deferred_call(uint8_t *block, size_t block_length);
+uint32_t punelovash8_deferred_call(uint8_t *block, size_t block_length);
 
 /*
  * Writes the ID of each page that the volume holds, the page's number times P, once to `ids`, which has room for ids_length
@@ -289,18 +375,26 @@ uint32_t punelovash_survey(uint32_t page_size, uint32_t page_count, uint32_t fir
                            const uint8_t *volume, size_t volume_length,
                            uint32_t *ids, size_t ids_length,
                            size_t *count);
+uint32_t punelovash8_survey(uint32_t page_size, uint32_t page_count, uint32_t first_page,
+                            const uint8_t *volume, size_t volume_length,
+                            uint64_t *ids, size_t ids_length,
+                            size_t *count);
 
 /* O, the ID of the oldest entry. Each of these four is 0 for a block that holds no log; none changes anything. */
 size_t punelovash_log_start(const uint8_t *block, size_t block_length);
+uint64_t punelovash8_log_start(const uint8_t *block, size_t block_length);
 
 /* A, the end of the log: the ID of the next entry, if that fits in the page. */
 size_t punelovash_log_end(const uint8_t *block, size_t block_length);
+uint64_t punelovash8_log_end(const uint8_t *block, size_t block_length);
 
 /* R, where the next read looks for its entry. */
 size_t punelovash_next_read_entry_id(const uint8_t *block, size_t block_length);
+uint64_t punelovash8_next_read_entry_id(const uint8_t *block, size_t block_length);
 
-/* L - 4N: the volume without its page headers; 0 for sizes that SHAPE refuses. */
+/* L - wN: the volume without its page headers; 0 for sizes that SHAPE refuses. */
 size_t punelovash_get_size(const uint8_t *block, size_t block_length);
+size_t punelovash8_get_size(const uint8_t *block, size_t block_length);
 
 #ifdef __cplusplus
 }

@@ -1,4 +1,4 @@
-/* Runs logs over a flash in memory, through punelovash.h. Exit status 0: every check held; 1: the message says which did not. */
+/* Runs logs over a flash in memory, through punelovash.h, on both boards. Exit status 0: every check held; 1: the message says which did not. */
 #include "punelovash.h"
 
 #include <stdarg.h>
@@ -6,13 +6,99 @@
 #include <stdlib.h>
 #include <string.h>
 
+/* ---- The boards: functions, readers and places of each, under one set of names and types ---- */
+
+struct board {
+    const char *name;
+    uint32_t w;
+    uint64_t ceiling;
+    size_t block_size;
+    size_t at_page_size, at_page_count, at_first_page, at_flags, at_state, at_oldest, at_read, at_append, at_kept, at_report;
+
+    uint64_t (*word_at)(const uint8_t *block, size_t at); /* a word of the board */
+    uint8_t (*state)(const uint8_t *block);
+    uint8_t (*report)(const uint8_t *block);
+    uint8_t (*report_lost)(const uint8_t *block);
+    uint8_t (*report_result)(const uint8_t *block);
+    uint32_t (*report_length)(const uint8_t *block);
+    uint8_t (*request)(const uint8_t *block);
+    uint32_t (*request_page)(const uint8_t *block);
+
+    uint32_t (*restart)(uint8_t *block, size_t block_length, uint32_t p, uint32_t n, uint32_t first, uint8_t circular,
+        uint8_t read_client, uint8_t append_client, const uint8_t *volume, size_t volume_length, uint8_t *page, size_t page_length,
+        const uint8_t *hold, size_t hold_length);
+    uint32_t (*append)(uint8_t *block, size_t block_length, const uint8_t *volume, size_t volume_length, uint8_t *page,
+        size_t page_length, uint8_t *hold, size_t hold_length, const uint8_t *data, size_t data_length, size_t length, uint8_t word);
+    uint32_t (*read)(uint8_t *block, size_t block_length, const uint8_t *volume, size_t volume_length, const uint8_t *page,
+        size_t page_length, uint8_t *buffer, size_t buffer_length, size_t length);
+    uint32_t (*seek)(uint8_t *block, size_t block_length, uint64_t id);
+    uint32_t (*sync)(uint8_t *block, size_t block_length, const uint8_t *volume, size_t volume_length, uint8_t *page,
+        size_t page_length, const uint8_t *hold, size_t hold_length, uint8_t word);
+    uint32_t (*erase)(uint8_t *block, size_t block_length, uint8_t word);
+    uint32_t (*write_complete)(uint8_t *block, size_t block_length, const uint8_t *volume, size_t volume_length, uint8_t *page,
+        size_t page_length, const uint8_t *hold, size_t hold_length, uint8_t good);
+    uint32_t (*erase_complete)(uint8_t *block, size_t block_length, const uint8_t *volume, size_t volume_length, uint8_t *page,
+        size_t page_length, const uint8_t *hold, size_t hold_length, uint8_t good, uint8_t word);
+    uint32_t (*deferred_call)(uint8_t *block, size_t block_length);
+    uint32_t (*survey)(uint32_t p, uint32_t n, uint32_t first, const uint8_t *volume, size_t volume_length, uint64_t *ids,
+        size_t ids_length, size_t *count);
+    uint64_t (*log_start)(const uint8_t *block, size_t block_length);
+    uint64_t (*log_end)(const uint8_t *block, size_t block_length);
+    uint64_t (*next_read_entry_id)(const uint8_t *block, size_t block_length);
+    size_t (*get_size)(const uint8_t *block, size_t block_length);
+};
+
+enum { ROOM = 16 }; /* a survey's elements */
+
+/* a board by its prefixes; where a function has IDs of the board's own type, one with 64 bits calls it */
+#define BOARD(lower, UPPER, word_bytes, c, id) \
+    static uint64_t lower##_word(const uint8_t *block, size_t at) { return lower##_word_at(block, at); } \
+    static uint32_t lower##_seek_to(uint8_t *block, size_t length, uint64_t to) { return lower##_seek(block, length, to); } \
+    static uint64_t lower##_start(const uint8_t *block, size_t length) { return lower##_log_start(block, length); } \
+    static uint64_t lower##_end(const uint8_t *block, size_t length) { return lower##_log_end(block, length); } \
+    static uint64_t lower##_next(const uint8_t *block, size_t length) { return lower##_next_read_entry_id(block, length); } \
+    static uint32_t lower##_survey_to(uint32_t p, uint32_t n, uint32_t first, const uint8_t *volume, size_t length, \
+        uint64_t *ids, size_t room, size_t *count) \
+    { \
+        id own[ROOM]; \
+        uint32_t answer; \
+        for (size_t k = 0; k < ROOM; k++) own[k] = (id)ids[k]; \
+        answer = lower##_survey(p, n, first, volume, length, own, room, count); \
+        for (size_t k = 0; k < ROOM; k++) ids[k] = own[k]; \
+        return answer; \
+    } \
+    static const struct board lower = { \
+        .name = #lower, .w = word_bytes, .ceiling = c, .block_size = UPPER##_BLOCK_SIZE, \
+        .at_page_size = UPPER##_AT_PAGE_SIZE, .at_page_count = UPPER##_AT_PAGE_COUNT, .at_first_page = UPPER##_AT_FIRST_PAGE, \
+        .at_flags = UPPER##_AT_FLAGS, .at_state = UPPER##_AT_STATE, .at_oldest = UPPER##_AT_OLDEST, .at_read = UPPER##_AT_READ, \
+        .at_append = UPPER##_AT_APPEND, .at_kept = UPPER##_AT_KEPT, .at_report = UPPER##_AT_REPORT, \
+        .word_at = lower##_word, .state = lower##_state, .report = lower##_report, .report_lost = lower##_report_lost, \
+        .report_result = lower##_report_result, .report_length = lower##_report_length, .request = lower##_request, \
+        .request_page = lower##_request_page, .restart = lower##_restart, .append = lower##_append, .read = lower##_read, \
+        .seek = lower##_seek_to, .sync = lower##_sync, .erase = lower##_erase, .write_complete = lower##_write_complete, \
+        .erase_complete = lower##_erase_complete, .deferred_call = lower##_deferred_call, .survey = lower##_survey_to, \
+        .log_start = lower##_start, .log_end = lower##_end, .next_read_entry_id = lower##_next, .get_size = lower##_get_size \
+    };
+
+BOARD(punelovash, PUNELOVASH, 4, 1879048192u, uint32_t)
+BOARD(punelovash8, PUNELOVASH8, 8, 0x7000000000000000u, uint64_t)
+
+/* the greater block of the two */
+enum { BLOCK_ROOM = PUNELOVASH8_BLOCK_SIZE };
+
+/* the board that is tested, and the bytes of its words */
+static const struct board *board;
+static uint32_t w;
+
+/* ---- Checks ---- */
+
 static const char *part = "";
 static unsigned long checks, calls;
 
 static void fail(int line, const char *what, const char *format, ...)
 {
     va_list words;
-    fprintf(stderr, "test.c:%d: %s: not so: %s: ", line, part, what);
+    fprintf(stderr, "test.c:%d: %s: %s: not so: %s: ", line, board->name, part, what);
     va_start(words, format);
     vfprintf(stderr, format, words);
     va_end(words);
@@ -65,7 +151,7 @@ struct bench {
     uint8_t *writing; /* the page of the write under way */
     uint8_t kind;     /* the operation under way: a request's kind */
     uint32_t slot;
-    size_t pages;     /* one more than the newest page that the flash was asked to write */
+    uint64_t pages;   /* one more than the newest page that the flash was asked to write */
 };
 
 static size_t volume_length(const struct bench *b) { return (size_t)b->p * b->n; }
@@ -73,7 +159,7 @@ static size_t volume_length(const struct bench *b) { return (size_t)b->p * b->n;
 static void check_bench(const struct bench *b)
 {
     calls++;
-    check_guards(b->block, PUNELOVASH_BLOCK_SIZE, "block");
+    check_guards(b->block, board->block_size, "block");
     check_guards(b->volume, volume_length(b), "volume");
     check_guards(b->page, b->p, "page");
     check_guards(b->hold, b->p, "hold");
@@ -84,7 +170,7 @@ static void check_bench(const struct bench *b)
 static uint32_t restart(struct bench *b)
 {
     b->kind = PUNELOVASH_NO_REQUEST; /* an operation under way is cut */
-    uint32_t answer = punelovash_restart(b->block, PUNELOVASH_BLOCK_SIZE, b->p, b->n, b->first, b->circular, b->read_client,
+    uint32_t answer = board->restart(b->block, board->block_size, b->p, b->n, b->first, b->circular, b->read_client,
         b->append_client, b->volume, volume_length(b), b->page, b->p, b->hold, b->p);
     check_bench(b);
     return answer;
@@ -99,7 +185,7 @@ static void make(struct bench *b, uint32_t p, uint32_t n, uint32_t first, uint8_
     b->circular = circular;
     b->read_client = 1;
     b->append_client = 1;
-    b->block = lend(PUNELOVASH_BLOCK_SIZE, 0xEE); /* no log */
+    b->block = lend(board->block_size, 0xEE); /* no log */
     b->volume = lend(volume_length(b), 0xFF);
     b->flash = lend(volume_length(b), 0xFF);
     b->page = lend(p, 0x33);
@@ -114,6 +200,19 @@ static void fresh(struct bench *b, uint32_t p, uint32_t n, uint32_t first, uint8
     SAME(restart(b), PUNELOVASH_OK, "restart on a fresh volume");
 }
 
+/* a page on flash with an ID, and no entry where `data` is 0, else one of that many bytes */
+static void put_page(struct bench *b, uint64_t id, uint32_t data)
+{
+    uint8_t *at = b->volume + id % volume_length(b);
+    memset(at, 0xFF, b->p);
+    for (uint32_t k = 0; k < w; k++) at[k] = (uint8_t)(id >> 8 * k);
+    if (data != 0) {
+        for (uint32_t k = 0; k < w; k++) at[w + k] = (uint8_t)((uint64_t)data >> 8 * k);
+        memset(at + 2 * w, 1, data);
+    }
+    memcpy(b->flash, b->volume, volume_length(b));
+}
+
 static void drop(struct bench *b)
 {
     unlend(b->block);
@@ -125,54 +224,54 @@ static void drop(struct bench *b)
     unlend(b->writing);
 }
 
-static size_t oldest(const struct bench *b) { return punelovash_log_start(b->block, PUNELOVASH_BLOCK_SIZE); }
-static size_t end(const struct bench *b) { return punelovash_log_end(b->block, PUNELOVASH_BLOCK_SIZE); }
-static size_t next_read(const struct bench *b) { return punelovash_next_read_entry_id(b->block, PUNELOVASH_BLOCK_SIZE); }
+static uint64_t oldest(const struct bench *b) { return board->log_start(b->block, board->block_size); }
+static uint64_t end(const struct bench *b) { return board->log_end(b->block, board->block_size); }
+static uint64_t next_read(const struct bench *b) { return board->next_read_entry_id(b->block, board->block_size); }
 
-static void check_ids(const struct bench *b, size_t o, size_t r, size_t a)
+static void check_ids(const struct bench *b, uint64_t o, uint64_t r, uint64_t a)
 {
     SAME(oldest(b), o, "O");
     SAME(next_read(b), r, "R");
     SAME(end(b), a, "A");
-    SAME(punelovash_word_at(b->block, PUNELOVASH_AT_OLDEST), o, "O in the block");
-    SAME(punelovash_word_at(b->block, PUNELOVASH_AT_READ), r, "R in the block");
-    SAME(punelovash_word_at(b->block, PUNELOVASH_AT_APPEND), a, "A in the block");
+    SAME(board->word_at(b->block, board->at_oldest), o, "O in the block");
+    SAME(board->word_at(b->block, board->at_read), r, "R in the block");
+    SAME(board->word_at(b->block, board->at_append), a, "A in the block");
 }
 
 static void check_report(const struct bench *b, uint32_t kind, size_t length, int lost, uint32_t result)
 {
-    SAME(punelovash_report(b->block), kind, "report");
-    SAME(punelovash_report_length(b->block), length, "report's length");
-    SAME(punelovash_report_lost(b->block), lost, "report's lost");
-    SAME(punelovash_report_result(b->block), result, "report's result");
-    if (kind != PUNELOVASH_NO_REPORT) SAME(punelovash_state(b->block), PUNELOVASH_IDLE, "state after a report");
+    SAME(board->report(b->block), kind, "report");
+    SAME(board->report_length(b->block), length, "report's length");
+    SAME(board->report_lost(b->block), lost, "report's lost");
+    SAME(board->report_result(b->block), result, "report's result");
+    if (kind != PUNELOVASH_NO_REPORT) SAME(board->state(b->block), PUNELOVASH_IDLE, "state after a report");
 }
 
 static void no_report(const struct bench *b) { check_report(b, PUNELOVASH_NO_REPORT, 0, 0, PUNELOVASH_OK); }
 
 static void check_request(const struct bench *b, uint32_t kind, uint32_t page)
 {
-    SAME(punelovash_request(b->block), kind, "request");
-    SAME(punelovash_request_page(b->block), page, "request's page");
+    SAME(board->request(b->block), kind, "request");
+    SAME(board->request_page(b->block), page, "request's page");
 }
 
 /* the driver starts what is requested, where the word was OK */
 static void start(struct bench *b, uint32_t answer, uint8_t word)
 {
     if (answer == PUNELOVASH_SHAPE || answer == PUNELOVASH_STATE || word != PUNELOVASH_WORD_OK) return;
-    if (punelovash_request(b->block) == PUNELOVASH_NO_REQUEST) return;
+    if (board->request(b->block) == PUNELOVASH_NO_REQUEST) return;
     SAME(b->kind, PUNELOVASH_NO_REQUEST, "operations under way when another is requested");
-    CHECK(punelovash_request_page(b->block) >= b->first && punelovash_request_page(b->block) < b->first + b->n,
-        "page %u is not of the volume", (unsigned)punelovash_request_page(b->block));
-    b->kind = punelovash_request(b->block);
-    b->slot = punelovash_request_page(b->block) - b->first;
+    CHECK(board->request_page(b->block) >= b->first && board->request_page(b->block) < b->first + b->n,
+        "page %u is not of the volume", (unsigned)board->request_page(b->block));
+    b->kind = board->request(b->block);
+    b->slot = board->request_page(b->block) - b->first;
     memcpy(b->writing, b->page, b->p);
     if (b->kind == PUNELOVASH_WRITE) b->pages = (end(b) - 1) / b->p + 1;
 }
 
 static uint32_t append(struct bench *b, const uint8_t *data, size_t data_length, size_t length, uint8_t word)
 {
-    uint32_t answer = punelovash_append(b->block, PUNELOVASH_BLOCK_SIZE, b->volume, volume_length(b), b->page, b->p, b->hold, b->p,
+    uint32_t answer = board->append(b->block, board->block_size, b->volume, volume_length(b), b->page, b->p, b->hold, b->p,
         data, data_length, length, word);
     check_bench(b);
     start(b, answer, word);
@@ -181,22 +280,22 @@ static uint32_t append(struct bench *b, const uint8_t *data, size_t data_length,
 
 static uint32_t read_into(struct bench *b, uint8_t *buffer, size_t buffer_length, size_t length)
 {
-    uint32_t answer = punelovash_read(b->block, PUNELOVASH_BLOCK_SIZE, b->volume, volume_length(b), b->page, b->p, buffer,
+    uint32_t answer = board->read(b->block, board->block_size, b->volume, volume_length(b), b->page, b->p, buffer,
         buffer_length, length);
     check_bench(b);
     return answer;
 }
 
-static uint32_t seek(struct bench *b, size_t id)
+static uint32_t seek(struct bench *b, uint64_t id)
 {
-    uint32_t answer = punelovash_seek(b->block, PUNELOVASH_BLOCK_SIZE, id);
+    uint32_t answer = board->seek(b->block, board->block_size, id);
     check_bench(b);
     return answer;
 }
 
 static uint32_t sync_log(struct bench *b, uint8_t word)
 {
-    uint32_t answer = punelovash_sync(b->block, PUNELOVASH_BLOCK_SIZE, b->volume, volume_length(b), b->page, b->p, b->hold, b->p, word);
+    uint32_t answer = board->sync(b->block, board->block_size, b->volume, volume_length(b), b->page, b->p, b->hold, b->p, word);
     check_bench(b);
     start(b, answer, word);
     return answer;
@@ -204,7 +303,7 @@ static uint32_t sync_log(struct bench *b, uint8_t word)
 
 static uint32_t erase(struct bench *b, uint8_t word)
 {
-    uint32_t answer = punelovash_erase(b->block, PUNELOVASH_BLOCK_SIZE, word);
+    uint32_t answer = board->erase(b->block, board->block_size, word);
     check_bench(b);
     start(b, answer, word);
     return answer;
@@ -212,7 +311,7 @@ static uint32_t erase(struct bench *b, uint8_t word)
 
 static uint32_t write_complete(struct bench *b, uint8_t good)
 {
-    uint32_t answer = punelovash_write_complete(b->block, PUNELOVASH_BLOCK_SIZE, b->volume, volume_length(b), b->page, b->p, b->hold,
+    uint32_t answer = board->write_complete(b->block, board->block_size, b->volume, volume_length(b), b->page, b->p, b->hold,
         b->p, good);
     check_bench(b);
     start(b, answer, PUNELOVASH_WORD_OK);
@@ -221,7 +320,7 @@ static uint32_t write_complete(struct bench *b, uint8_t good)
 
 static uint32_t erase_complete(struct bench *b, uint8_t good, uint8_t word)
 {
-    uint32_t answer = punelovash_erase_complete(b->block, PUNELOVASH_BLOCK_SIZE, b->volume, volume_length(b), b->page, b->p, b->hold,
+    uint32_t answer = board->erase_complete(b->block, board->block_size, b->volume, volume_length(b), b->page, b->p, b->hold,
         b->p, good, word);
     check_bench(b);
     start(b, answer, word);
@@ -230,7 +329,7 @@ static uint32_t erase_complete(struct bench *b, uint8_t good, uint8_t word)
 
 static uint32_t deferred_call(struct bench *b)
 {
-    uint32_t answer = punelovash_deferred_call(b->block, PUNELOVASH_BLOCK_SIZE);
+    uint32_t answer = board->deferred_call(b->block, board->block_size);
     check_bench(b);
     return answer;
 }
@@ -253,12 +352,19 @@ enum { MOST = 2000 };
 
 struct entries {
     size_t count;
-    struct { size_t id, length; } e[MOST];
+    struct { uint64_t id; size_t length; } e[MOST];
 };
+
+/* the most data that an entry has, so that it fills its page; and what still fits after an entry of so many bytes */
+static uint32_t full(uint32_t p) { return p - 2 * w; }
+static uint32_t rest(uint32_t p, uint32_t data) { return full(p) - w - data; }
+
+/* where the first entry of so many bytes ends */
+static uint32_t after(uint32_t data) { return 2 * w + data; }
 
 static size_t entry_length(size_t i, uint32_t p)
 {
-    size_t length = 1 + (i * 7 + i / 5) % (p - 8);
+    size_t length = 1 + (i * 7 + i / 5) % full(p);
     return length % 256 == 0 || length % 256 == 255 ? length - 2 : length; /* the header says why */
 }
 
@@ -271,25 +377,26 @@ static void entry_bytes(size_t i, size_t length, uint8_t *to)
 static void append_entry(struct bench *b, struct entries *all, size_t length)
 {
     uint8_t data[4096];
-    size_t i = all->count, before = end(b);
+    size_t i = all->count;
+    uint64_t before = end(b);
     int wrote;
     CHECK(i < MOST, "too many entries for the test");
     entry_bytes(i, length, data);
     SAME(append(b, data, length, length, PUNELOVASH_WORD_OK), PUNELOVASH_OK, "append");
-    wrote = punelovash_request(b->block) == PUNELOVASH_WRITE;
-    CHECK(wrote == (before % b->p == 0 || before % b->p + 4 + length > b->p), "a write %s requested", wrote ? "was" : "wasn't");
+    wrote = board->request(b->block) == PUNELOVASH_WRITE;
+    CHECK(wrote == (before % b->p == 0 || before % b->p + w + length > b->p), "a write %s requested", wrote ? "was" : "wasn't");
     if (wrote) {
         no_report(b);
-        SAME(punelovash_state(b->block), PUNELOVASH_IN_APPEND, "state");
+        SAME(board->state(b->block), PUNELOVASH_IN_APPEND, "state");
         ends(b, NEW);
         SAME(write_complete(b, 1), PUNELOVASH_OK, "write_complete");
     }
-    check_report(b, PUNELOVASH_APPEND_DONE, length, oldest(b) != 4, PUNELOVASH_OK);
+    check_report(b, PUNELOVASH_APPEND_DONE, length, oldest(b) != w, PUNELOVASH_OK);
     check_request(b, PUNELOVASH_NO_REQUEST, 0);
-    all->e[i].id = wrote ? (before + b->p - 1) / b->p * b->p + 4 : before;
+    all->e[i].id = wrote ? (before + b->p - 1) / b->p * b->p + w : before;
     all->e[i].length = length;
     all->count++;
-    SAME(end(b), all->e[i].id + 4 + length, "A after an append");
+    SAME(end(b), all->e[i].id + w + length, "A after an append");
 }
 
 /* reads the next entry, which must be entry i */
@@ -301,17 +408,17 @@ static void read_entry(struct bench *b, const struct entries *all, size_t i)
     entry_bytes(i, all->e[i].length, want);
     SAME(read_into(b, b->buffer, b->p, b->p), PUNELOVASH_OK, "read");
     no_report(b);
-    SAME(punelovash_state(b->block), PUNELOVASH_IN_READ, "state");
-    SAME(punelovash_word_at(b->block, PUNELOVASH_AT_KEPT), all->e[i].length, "kept length");
+    SAME(board->state(b->block), PUNELOVASH_IN_READ, "state");
+    SAME(punelovash_word_at(b->block, board->at_kept), all->e[i].length, "kept length");
     CHECK(memcmp(b->buffer, want, b->p) == 0, "the bytes of entry %zu, or those after it, are others", i);
-    SAME(next_read(b), all->e[i].id + 4 + all->e[i].length, "R after a read");
+    SAME(next_read(b), all->e[i].id + w + all->e[i].length, "R after a read");
     SAME(deferred_call(b), PUNELOVASH_OK, "deferred_call");
     check_report(b, PUNELOVASH_READ_DONE, all->e[i].length, 0, PUNELOVASH_OK);
 }
 
 static void end_of_log(struct bench *b)
 {
-    size_t r = next_read(b);
+    uint64_t r = next_read(b);
     memset(b->buffer, 0x55, b->p);
     SAME(read_into(b, b->buffer, b->p, b->p), PUNELOVASH_FAIL, "read at the end of the log");
     no_report(b);
@@ -319,11 +426,11 @@ static void end_of_log(struct bench *b)
     for (uint32_t k = 0; k < b->p; k++) SAME(b->buffer[k], 0x55, "the buffer after FAIL");
 }
 
-static void seek_done(struct bench *b, size_t id)
+static void seek_done(struct bench *b, uint64_t id)
 {
     SAME(seek(b, id), PUNELOVASH_OK, "seek");
     no_report(b);
-    SAME(punelovash_state(b->block), PUNELOVASH_IN_SEEK, "state");
+    SAME(board->state(b->block), PUNELOVASH_IN_SEEK, "state");
     SAME(next_read(b), id, "R after a seek");
     SAME(deferred_call(b), PUNELOVASH_OK, "deferred_call");
     check_report(b, PUNELOVASH_SEEK_DONE, 0, 0, PUNELOVASH_OK);
@@ -347,8 +454,8 @@ static void reads_back(struct bench *b, const struct entries *all, size_t first)
 static void synced(struct bench *b, enum left left, uint8_t good)
 {
     SAME(sync_log(b, PUNELOVASH_WORD_OK), PUNELOVASH_OK, "sync");
-    SAME(punelovash_request(b->block), PUNELOVASH_WRITE, "sync's request");
-    SAME(punelovash_state(b->block), PUNELOVASH_IN_SYNC, "state");
+    SAME(board->request(b->block), PUNELOVASH_WRITE, "sync's request");
+    SAME(board->state(b->block), PUNELOVASH_IN_SYNC, "state");
     ends(b, left);
     SAME(write_complete(b, good), PUNELOVASH_OK, "write_complete");
     check_report(b, PUNELOVASH_SYNC_DONE, 0, 0, good ? PUNELOVASH_OK : PUNELOVASH_FAIL);
@@ -364,31 +471,31 @@ static void worked_cases(void)
     part = "cases";
 
     fresh(&b, 32, 4, 7, 1);
-    check_ids(&b, 4, 4, 4);
+    check_ids(&b, w, w, w);
     no_report(&b);
     check_request(&b, PUNELOVASH_NO_REQUEST, 0);
-    SAME(punelovash_get_size(b.block, PUNELOVASH_BLOCK_SIZE), 4 * 32 - 4 * 4, "get_size");
-    SAME(punelovash_state(b.block), PUNELOVASH_IDLE, "state");
-    SAME(punelovash_word_at(b.block, PUNELOVASH_AT_PAGE_SIZE), 32, "page size");
-    SAME(punelovash_word_at(b.block, PUNELOVASH_AT_PAGE_COUNT), 4, "page count");
-    SAME(punelovash_word_at(b.block, PUNELOVASH_AT_FIRST_PAGE), 7, "first page");
-    SAME(b.block[PUNELOVASH_AT_FLAGS], PUNELOVASH_CIRCULAR + PUNELOVASH_READ_CLIENT + PUNELOVASH_APPEND_CLIENT, "flags");
+    SAME(board->get_size(b.block, board->block_size), 4 * 32 - 4 * w, "get_size");
+    SAME(board->state(b.block), PUNELOVASH_IDLE, "state");
+    SAME(punelovash_word_at(b.block, board->at_page_size), 32, "page size");
+    SAME(punelovash_word_at(b.block, board->at_page_count), 4, "page count");
+    SAME(punelovash_word_at(b.block, board->at_first_page), 7, "first page");
+    SAME(b.block[board->at_flags], PUNELOVASH_CIRCULAR + PUNELOVASH_READ_CLIENT + PUNELOVASH_APPEND_CLIENT, "flags");
     for (int k = 0; k < 32; k++) SAME(b.page[k], 0, "the page buffer of an empty log");
     for (int k = 0; k < 32; k++) SAME(b.hold[k], 0x44, "the hold buffer after a restart");
     SAME(sync_log(&b, PUNELOVASH_WORD_OK), PUNELOVASH_OK, "fresh sync");
     no_report(&b);
     check_request(&b, PUNELOVASH_NO_REQUEST, 0);
-    SAME(append(&b, ones, 25, 25, 0), PUNELOVASH_SIZE, "append 25");
-    SAME(append(&b, ones, 24, 24, 0), PUNELOVASH_OK, "append 24");
-    check_ids(&b, 4, 4, 32);
+    SAME(append(&b, ones, full(32) + 1, full(32) + 1, 0), PUNELOVASH_SIZE, "append of more than a page holds");
+    SAME(append(&b, ones, full(32), full(32), 0), PUNELOVASH_OK, "append of a full page");
+    check_ids(&b, w, w, 32);
     drop(&b);
 
     fresh(&b, 32, 4, 7, 1);
     SAME(append(&b, ones, 5, 5, 0), PUNELOVASH_OK, "append 5");
     check_report(&b, PUNELOVASH_APPEND_DONE, 5, 0, PUNELOVASH_OK);
-    check_ids(&b, 4, 4, 13);
-    SAME(append(&b, ones, 15, 15, 0), PUNELOVASH_OK, "append 15");
-    check_ids(&b, 4, 4, 32);
+    check_ids(&b, w, w, 2 * w + 5);
+    SAME(append(&b, ones, rest(32, 5), rest(32, 5), 0), PUNELOVASH_OK, "append of what still fits");
+    check_ids(&b, w, w, 32);
     SAME(append(&b, ones, 1, 1, 0), PUNELOVASH_OK, "append 1");
     check_request(&b, PUNELOVASH_WRITE, 7);
     SAME(b.hold[0], ones[0], "the data in the hold buffer");
@@ -396,66 +503,69 @@ static void worked_cases(void)
     ends(&b, NEW);
     SAME(write_complete(&b, 1), PUNELOVASH_OK, "write_complete");
     check_report(&b, PUNELOVASH_APPEND_DONE, 1, 0, PUNELOVASH_OK);
-    check_ids(&b, 4, 4, 41);
+    check_ids(&b, w, w, 32 + 2 * w + 1);
     drop(&b);
 
     fresh(&b, 32, 4, 7, 1);
-    SAME(append(&b, ones, 20, 20, 0), PUNELOVASH_OK, "append 20");
+    SAME(append(&b, ones, full(32) - 4, full(32) - 4, 0), PUNELOVASH_OK, "append of all but 4");
     SAME(append(&b, ones, 1, 1, 0), PUNELOVASH_OK, "append 1");
     for (int k = 28; k < 32; k++) SAME(b.page[k], 0xFF, "padding");
     ends(&b, NEW);
     SAME(write_complete(&b, 1), PUNELOVASH_OK, "write_complete");
-    check_ids(&b, 4, 4, 41);
+    check_ids(&b, w, w, 32 + 2 * w + 1);
     drop(&b);
 
     /* a flush of page 4 takes page 0's place */
     fresh(&b, 32, 4, 0, 1);
     for (uint32_t k = 0; k < 5; k++) {
-        SAME(append(&b, ones, 24, 24, 0), PUNELOVASH_OK, "append 24");
+        SAME(append(&b, ones, full(32), full(32), 0), PUNELOVASH_OK, "append of a full page");
         if (k == 0) continue;
         check_request(&b, PUNELOVASH_WRITE, k - 1);
         ends(&b, NEW);
         SAME(write_complete(&b, 1), PUNELOVASH_OK, "write_complete");
     }
-    check_ids(&b, 4, 4, 160);
-    SAME(append(&b, ones, 24, 24, 0), PUNELOVASH_OK, "append 24");
+    check_ids(&b, w, w, 160);
+    SAME(append(&b, ones, full(32), full(32), 0), PUNELOVASH_OK, "append of a full page");
     check_request(&b, PUNELOVASH_WRITE, 0);
-    check_ids(&b, 36, 36, 160);
+    check_ids(&b, 32 + w, 32 + w, 160);
     ends(&b, NEW);
     SAME(write_complete(&b, 1), PUNELOVASH_OK, "write_complete");
-    check_report(&b, PUNELOVASH_APPEND_DONE, 24, 1, PUNELOVASH_OK);
+    check_report(&b, PUNELOVASH_APPEND_DONE, full(32), 1, PUNELOVASH_OK);
     drop(&b);
 
-    /* slot 3 full and headed 1,879,048,160: A = C */
+    /* slot 3 full, and its page the last below the ceiling: A = C */
     make(&b, 32, 4, 0, 1);
-    {
-        uint8_t *at = b.volume + 96;
-        const uint32_t head = 1879048160u;
-        for (int k = 0; k < 4; k++) at[k] = (uint8_t)(head >> (8 * k));
-        memset(at + 4, 0, 4);
-        at[4] = 24;
-        memset(at + 8, 1, 24);
-        memcpy(b.flash, b.volume, volume_length(&b));
-    }
+    put_page(&b, board->ceiling - 32, full(32));
     SAME(restart(&b), PUNELOVASH_OK, "restart near the ceiling");
-    SAME(end(&b), 1879048192u, "A at the ceiling");
+    check_ids(&b, board->ceiling - 32 + w, board->ceiling - 32 + w, board->ceiling);
     SAME(append(&b, ones, 1, 1, 0), PUNELOVASH_LIMIT, "append at the ceiling");
     no_report(&b);
     check_request(&b, PUNELOVASH_NO_REQUEST, 0);
     drop(&b);
+
+    /* a header at the ceiling is none */
+    make(&b, 32, 4, 0, 1);
+    put_page(&b, board->ceiling, full(32));
+    SAME(restart(&b), PUNELOVASH_OK, "restart on a page at the ceiling");
+    check_ids(&b, w, w, w);
+    drop(&b);
 }
 
-static void laps(uint32_t p, uint32_t n, size_t count)
+/* `from` is the ID of the page that the log begins in: 0 is a fresh volume */
+static void laps(uint32_t p, uint32_t n, size_t count, uint64_t from)
 {
     static struct entries all;
     struct bench b;
-    part = "laps";
+    part = from == 0 ? "laps" : "laps far on";
     all.count = 0;
-    fresh(&b, p, n, 1000, 1);
+    make(&b, p, n, 1000, 1);
+    if (from != 0) put_page(&b, from, 0);
+    SAME(restart(&b), PUNELOVASH_OK, "restart");
+    check_ids(&b, from + w, from + w, from + w);
     for (size_t i = 0; i < count; i++) {
         append_entry(&b, &all, entry_length(i, p));
-        if (i % 13 == 12 && end(&b) % p != 4) synced(&b, NEW, 1);
-        SAME(oldest(&b), b.pages > n ? (b.pages - n) * p + 4 : 4, "O");
+        if (i % 13 == 12 && end(&b) % p != w) synced(&b, NEW, 1);
+        SAME(oldest(&b), (b.pages > from / p + n ? (b.pages - n) * p : from) + w, "O");
         if (i % 29 == 0) {
             size_t first = first_entry(&b, &all);
             seek_done(&b, oldest(&b));
@@ -463,7 +573,7 @@ static void laps(uint32_t p, uint32_t n, size_t count)
             reads_back(&b, &all, first);
         }
     }
-    CHECK(end(&b) > 4 * volume_length(&b), "only %zu bytes: fewer than four laps", end(&b));
+    CHECK(end(&b) - from > 4 * volume_length(&b), "fewer than four laps");
 
     part = "seek";
     for (size_t i = first_entry(&b, &all); i < all.count; i++) {
@@ -474,20 +584,21 @@ static void laps(uint32_t p, uint32_t n, size_t count)
     seek_done(&b, end(&b));
     end_of_log(&b);
     {
-        size_t r = next_read(&b);
+        uint64_t r = next_read(&b);
         SAME(seek(&b, oldest(&b) - 1), PUNELOVASH_INVAL, "seek to O - 1");
         SAME(seek(&b, end(&b) + 1), PUNELOVASH_INVAL, "seek to A + 1");
-        SAME(seek(&b, SIZE_MAX), PUNELOVASH_INVAL, "seek to the greatest number");
+        SAME(seek(&b, end(&b) + ((uint64_t)1 << 32)), PUNELOVASH_INVAL, "seek to an ID whose lower half is A");
+        SAME(seek(&b, UINT64_MAX), PUNELOVASH_INVAL, "seek to the greatest number");
         SAME(next_read(&b), r, "R after INVAL");
     }
 
     part = "restart";
     {
-        size_t o = oldest(&b), a;
-        if (end(&b) % p != 4) synced(&b, NEW, 1);
+        uint64_t o, a;
+        if (end(&b) % p != w) synced(&b, NEW, 1);
         o = oldest(&b);
         a = end(&b);
-        memset(b.block, 0xEE, PUNELOVASH_BLOCK_SIZE);
+        memset(b.block, 0xEE, board->block_size);
         memset(b.page, 0x77, p);
         SAME(restart(&b), PUNELOVASH_OK, "restart");
         check_ids(&b, o, o, a);
@@ -501,18 +612,18 @@ static void laps(uint32_t p, uint32_t n, size_t count)
         for (;;) {
             check_request(&b, PUNELOVASH_ERASE, 1000 + (uint32_t)(oldest(&b) / p % n));
             no_report(&b);
-            SAME(punelovash_state(b.block), PUNELOVASH_IN_ERASE, "state");
+            SAME(board->state(b.block), PUNELOVASH_IN_ERASE, "state");
             SAME(append(&b, ones, 1, 1, 0), PUNELOVASH_BUSY, "append during an erase");
             ends(&b, BLANK);
             pages++;
             CHECK(pages <= n + 1, "the erase never ends");
             SAME(erase_complete(&b, 1, PUNELOVASH_WORD_OK), PUNELOVASH_OK, "erase_complete");
-            if (punelovash_report(b.block) != PUNELOVASH_NO_REPORT) break;
+            if (board->report(b.block) != PUNELOVASH_NO_REPORT) break;
         }
     }
     check_report(&b, PUNELOVASH_ERASE_DONE, 0, 0, PUNELOVASH_OK);
     check_request(&b, PUNELOVASH_NO_REQUEST, 0);
-    check_ids(&b, 4, 4, 4);
+    check_ids(&b, w, w, w);
     for (uint32_t k = 0; k < p; k++) SAME(b.page[k], 0, "the page buffer after an erase");
     for (size_t k = 0; k < volume_length(&b); k++) SAME(b.volume[k], 0xFF, "the volume after an erase");
     end_of_log(&b);
@@ -529,7 +640,7 @@ static void cut_in_sync(enum left left)
     struct bench b;
     part = left == OLD ? "sync cut, old" : left == BLANK ? "sync cut, blank" : "sync cut, new";
     all.count = 0;
-    fresh(&b, 64, 4, 0, 1);
+    fresh(&b, 16 * w, 4, 0, 1);
     append_entry(&b, &all, 10);
     synced(&b, NEW, 1);
     append_entry(&b, &all, 11);
@@ -540,7 +651,7 @@ static void cut_in_sync(enum left left)
     memset(b.hold, 0x66, b.p);
     SAME(restart(&b), PUNELOVASH_OK, "restart after a cut");
     all.count = left == OLD ? 1 : left == BLANK ? 0 : 3;
-    check_ids(&b, 4, 4, left == OLD ? 18 : left == BLANK ? 4 : 18 + 15 + 16);
+    check_ids(&b, w, w, left == OLD ? after(10) : left == BLANK ? w : after(10) + w + 11 + w + 12);
     reads_back(&b, &all, 0);
     append_entry(&b, &all, 13); /* and on it goes */
     read_entry(&b, &all, all.count - 1);
@@ -552,26 +663,26 @@ static void cut_in_append(enum left left)
 {
     static struct entries all;
     struct bench b;
-    uint8_t data[24];
+    uint8_t data[32];
     part = left == OLD ? "append cut, old" : left == BLANK ? "append cut, blank" : "append cut, new";
     all.count = 0;
     fresh(&b, 32, 4, 0, 1);
-    for (int k = 0; k < 5; k++) append_entry(&b, &all, 24); /* page 4 in the buffer, pages 0 to 3 on flash */
-    entry_bytes(5, 24, data);
-    SAME(append(&b, data, 24, 24, PUNELOVASH_WORD_OK), PUNELOVASH_OK, "append");
+    for (int k = 0; k < 5; k++) append_entry(&b, &all, full(32)); /* page 4 in the buffer, pages 0 to 3 on flash */
+    entry_bytes(5, full(32), data);
+    SAME(append(&b, data, full(32), full(32), PUNELOVASH_WORD_OK), PUNELOVASH_OK, "append");
     check_request(&b, PUNELOVASH_WRITE, 0);
     ends(&b, left);
     SAME(restart(&b), PUNELOVASH_OK, "restart after a cut");
     if (left == OLD) { /* pages 0 to 3 */
         all.count = 4;
-        check_ids(&b, 4, 4, 4 * 32 + 4);
+        check_ids(&b, w, w, 4 * 32 + w);
         reads_back(&b, &all, 0);
     } else if (left == BLANK) { /* pages 1 to 3 */
         all.count = 4;
-        check_ids(&b, 36, 36, 4 * 32 + 4);
+        check_ids(&b, 32 + w, 32 + w, 4 * 32 + w);
         reads_back(&b, &all, 1);
     } else { /* pages 1 to 4 */
-        check_ids(&b, 36, 36, 5 * 32 + 4);
+        check_ids(&b, 32 + w, 32 + w, 5 * 32 + w);
         reads_back(&b, &all, 1);
     }
     drop(&b);
@@ -585,14 +696,14 @@ static void cut_in_erase(enum left left)
     part = left == OLD ? "erase cut, old" : "erase cut, blank";
     all.count = 0;
     fresh(&b, 32, 4, 0, 1);
-    for (int k = 0; k < 3; k++) append_entry(&b, &all, 24);
+    for (int k = 0; k < 3; k++) append_entry(&b, &all, full(32));
     synced(&b, NEW, 1);
     SAME(erase(&b, PUNELOVASH_WORD_OK), PUNELOVASH_OK, "erase");
     ends(&b, BLANK);
     SAME(erase_complete(&b, 1, PUNELOVASH_WORD_OK), PUNELOVASH_OK, "erase_complete");
     ends(&b, left);
     SAME(restart(&b), PUNELOVASH_OK, "restart after a cut");
-    check_ids(&b, left == OLD ? 36 : 68, left == OLD ? 36 : 68, 100);
+    check_ids(&b, left == OLD ? 32 + w : 64 + w, left == OLD ? 32 + w : 64 + w, 96 + w);
     reads_back(&b, &all, left == OLD ? 1 : 2);
     drop(&b);
 }
@@ -601,25 +712,25 @@ static void failures(void)
 {
     static struct entries all;
     struct bench b;
-    uint8_t data[24];
+    uint8_t data[32];
 
     part = "a write that fails";
     for (int left = OLD; left <= NEW; left++) {
         all.count = 0;
         fresh(&b, 32, 4, 0, 1);
-        append_entry(&b, &all, 24);
-        entry_bytes(1, 24, data);
-        SAME(append(&b, data, 24, 24, PUNELOVASH_WORD_OK), PUNELOVASH_OK, "append");
+        append_entry(&b, &all, full(32));
+        entry_bytes(1, full(32), data);
+        SAME(append(&b, data, full(32), full(32), PUNELOVASH_WORD_OK), PUNELOVASH_OK, "append");
         ends(&b, (enum left)left);
         SAME(write_complete(&b, 0), PUNELOVASH_OK, "write_complete");
         check_report(&b, PUNELOVASH_APPEND_DONE, 0, 0, PUNELOVASH_FAIL);
-        check_ids(&b, 4, 4, 32);
+        check_ids(&b, w, w, 32);
         reads_back(&b, &all, 0);
         synced(&b, (enum left)left, 0);
         synced(&b, NEW, 1);
-        check_ids(&b, 4, 32, 36);
-        append_entry(&b, &all, 24);
-        seek_done(&b, 4);
+        check_ids(&b, w, 32, 32 + w);
+        append_entry(&b, &all, full(32));
+        seek_done(&b, w);
         reads_back(&b, &all, 0);
         drop(&b);
     }
@@ -628,12 +739,12 @@ static void failures(void)
     for (int left = OLD; left <= BLANK; left++) {
         all.count = 0;
         fresh(&b, 32, 4, 0, 1);
-        for (int k = 0; k < 3; k++) append_entry(&b, &all, 24);
+        for (int k = 0; k < 3; k++) append_entry(&b, &all, full(32));
         SAME(erase(&b, PUNELOVASH_WORD_OK), PUNELOVASH_OK, "erase");
         ends(&b, (enum left)left);
         SAME(erase_complete(&b, 0, PUNELOVASH_WORD_OK), PUNELOVASH_OK, "erase_complete");
         check_report(&b, PUNELOVASH_ERASE_DONE, 0, 0, PUNELOVASH_FAIL);
-        check_ids(&b, 4, 4, 96);
+        check_ids(&b, w, w, 96);
         reads_back(&b, &all, left == OLD ? 0 : 1);
         drop(&b);
     }
@@ -641,31 +752,31 @@ static void failures(void)
     part = "an erase whose next request is refused";
     all.count = 0;
     fresh(&b, 32, 4, 0, 1);
-    for (int k = 0; k < 3; k++) append_entry(&b, &all, 24);
+    for (int k = 0; k < 3; k++) append_entry(&b, &all, full(32));
     SAME(erase(&b, PUNELOVASH_WORD_OK), PUNELOVASH_OK, "erase");
     ends(&b, BLANK);
     SAME(erase_complete(&b, 1, PUNELOVASH_WORD_BUSY), PUNELOVASH_OK, "erase_complete with BUSY");
     check_report(&b, PUNELOVASH_ERASE_DONE, 0, 0, PUNELOVASH_BUSY);
     check_request(&b, PUNELOVASH_ERASE, 1);
-    check_ids(&b, 36, 4, 96);
+    check_ids(&b, 32 + w, w, 96);
     SAME(erase(&b, PUNELOVASH_WORD_OK), PUNELOVASH_OK, "erase again");
     ends(&b, BLANK);
     SAME(erase_complete(&b, 1, PUNELOVASH_WORD_BUSY), PUNELOVASH_OK, "erase_complete with BUSY");
     check_report(&b, PUNELOVASH_ERASE_DONE, 0, 0, PUNELOVASH_BUSY);
-    check_ids(&b, 68, 36, 96);
+    check_ids(&b, 64 + w, 32 + w, 96);
     reads_back(&b, &all, 2);
     drop(&b);
     all.count = 0;
     fresh(&b, 32, 4, 0, 1);
-    for (int k = 0; k < 3; k++) append_entry(&b, &all, 24);
+    for (int k = 0; k < 3; k++) append_entry(&b, &all, full(32));
     SAME(erase(&b, PUNELOVASH_WORD_OK), PUNELOVASH_OK, "erase");
     ends(&b, BLANK);
     SAME(erase_complete(&b, 1, PUNELOVASH_WORD_FAIL), PUNELOVASH_OK, "erase_complete with FAIL");
     no_report(&b);
     check_request(&b, PUNELOVASH_ERASE, 1);
-    SAME(punelovash_state(b.block), PUNELOVASH_IN_ERASE, "state");
+    SAME(board->state(b.block), PUNELOVASH_IN_ERASE, "state");
     SAME(restart(&b), PUNELOVASH_OK, "restart leads out of Erase");
-    check_ids(&b, 36, 36, 68); /* page 1 is on flash, page 2 never was */
+    check_ids(&b, 32 + w, 32 + w, 64 + w); /* page 1 is on flash, page 2 never was */
     all.count = 2;
     reads_back(&b, &all, 1);
     drop(&b);
@@ -676,31 +787,31 @@ static void driver_words(void)
 {
     static struct entries all;
     struct bench b, d;
-    uint8_t data[24], before[PUNELOVASH_BLOCK_SIZE];
+    uint8_t data[32], before[BLOCK_ROOM];
     static const uint8_t words[] = { 2, 1, 3, 255 };
 
-    for (size_t w = 0; w < sizeof words; w++) {
-        uint32_t answer = words[w] == 2 ? PUNELOVASH_BUSY : PUNELOVASH_FAIL;
+    for (size_t k = 0; k < sizeof words; k++) {
+        uint32_t answer = words[k] == 2 ? PUNELOVASH_BUSY : PUNELOVASH_FAIL;
 
         part = "a refused append, directly and by way (b)";
-        entry_bytes(5, 24, data);
+        entry_bytes(5, full(32), data);
         all.count = 0;
         fresh(&d, 32, 4, 0, 1);
-        for (int k = 0; k < 5; k++) append_entry(&d, &all, 24);
-        SAME(append(&d, data, 24, 24, words[w]), answer, "append with the driver's refusal");
+        for (int i = 0; i < 5; i++) append_entry(&d, &all, full(32));
+        SAME(append(&d, data, full(32), full(32), words[k]), answer, "append with the driver's refusal");
         no_report(&d);
         check_request(&d, PUNELOVASH_WRITE, 0);
-        SAME(punelovash_state(d.block), PUNELOVASH_IDLE, "state");
-        check_ids(&d, 36, 36, 160);
+        SAME(board->state(d.block), PUNELOVASH_IDLE, "state");
+        check_ids(&d, 32 + w, 32 + w, 160);
         all.count = 0;
         fresh(&b, 32, 4, 0, 1);
-        for (int k = 0; k < 5; k++) append_entry(&b, &all, 24);
-        memcpy(before, b.block, sizeof before);
-        SAME(append(&b, data, 24, 24, 0), PUNELOVASH_OK, "append");
+        for (int i = 0; i < 5; i++) append_entry(&b, &all, full(32));
+        memcpy(before, b.block, board->block_size);
+        SAME(append(&b, data, full(32), full(32), 0), PUNELOVASH_OK, "append");
         b.kind = PUNELOVASH_NO_REQUEST; /* the driver refuses */
-        memcpy(b.block, before, sizeof before);
-        SAME(append(&b, data, 24, 24, words[w]), answer, "append again with the driver's word");
-        CHECK(memcmp(b.block, d.block, PUNELOVASH_BLOCK_SIZE) == 0, "the blocks differ");
+        memcpy(b.block, before, board->block_size);
+        SAME(append(&b, data, full(32), full(32), words[k]), answer, "append again with the driver's word");
+        CHECK(memcmp(b.block, d.block, board->block_size) == 0, "the blocks differ");
         CHECK(memcmp(b.page, d.page, 32) == 0, "the page buffers differ");
         CHECK(memcmp(b.hold, d.hold, 32) == 0, "the hold buffers differ");
         drop(&b);
@@ -708,22 +819,22 @@ static void driver_words(void)
 
         part = "a refused sync, directly and by way (b)";
         all.count = 0;
-        fresh(&d, 32, 4, 0, 1);
+        fresh(&d, 64, 4, 0, 1);
         append_entry(&d, &all, 5);
-        SAME(sync_log(&d, words[w]), answer, "sync with the driver's refusal");
-        SAME(punelovash_state(d.block), PUNELOVASH_IDLE, "state");
-        check_ids(&d, 4, 4, 13);
+        SAME(sync_log(&d, words[k]), answer, "sync with the driver's refusal");
+        SAME(board->state(d.block), PUNELOVASH_IDLE, "state");
+        check_ids(&d, w, w, after(5));
         reads_back(&d, &all, 0);
-        seek_done(&d, 4);
+        seek_done(&d, w);
         all.count = 0;
-        fresh(&b, 32, 4, 0, 1);
+        fresh(&b, 64, 4, 0, 1);
         append_entry(&b, &all, 5);
-        memcpy(before, b.block, sizeof before);
+        memcpy(before, b.block, board->block_size);
         SAME(sync_log(&b, 0), PUNELOVASH_OK, "sync");
         b.kind = PUNELOVASH_NO_REQUEST;
-        memcpy(b.block, before, sizeof before);
-        SAME(sync_log(&b, words[w]), answer, "sync again with the driver's word");
-        CHECK(memcmp(b.page, d.page, 32) == 0, "the page buffers differ");
+        memcpy(b.block, before, board->block_size);
+        SAME(sync_log(&b, words[k]), answer, "sync again with the driver's word");
+        CHECK(memcmp(b.page, d.page, 64) == 0, "the page buffers differ");
         synced(&b, NEW, 1);
         append_entry(&b, &all, 6); /* over the padding */
         reads_back(&b, &all, 0);
@@ -734,9 +845,9 @@ static void driver_words(void)
         all.count = 0;
         fresh(&b, 32, 4, 0, 1);
         append_entry(&b, &all, 5);
-        SAME(erase(&b, words[w]), answer, "erase with the driver's refusal");
+        SAME(erase(&b, words[k]), answer, "erase with the driver's refusal");
         no_report(&b);
-        SAME(punelovash_state(b.block), PUNELOVASH_IN_ERASE, "state");
+        SAME(board->state(b.block), PUNELOVASH_IN_ERASE, "state");
         SAME(append(&b, data, 1, 1, 0), PUNELOVASH_BUSY, "append after it");
         drop(&b);
     }
@@ -744,13 +855,13 @@ static void driver_words(void)
     part = "refusals by way (a)";
     all.count = 0;
     fresh(&b, 32, 4, 0, 1);
-    append_entry(&b, &all, 24);
-    entry_bytes(1, 24, data);
-    SAME(append(&b, data, 24, 24, 0), PUNELOVASH_OK, "append");
+    append_entry(&b, &all, full(32));
+    entry_bytes(1, full(32), data);
+    SAME(append(&b, data, full(32), full(32), 0), PUNELOVASH_OK, "append");
     ends(&b, OLD); /* the driver refused: nothing has changed */
     SAME(write_complete(&b, 0), PUNELOVASH_OK, "write_complete");
     check_report(&b, PUNELOVASH_APPEND_DONE, 0, 0, PUNELOVASH_FAIL);
-    append_entry(&b, &all, 24);
+    append_entry(&b, &all, full(32));
     SAME(erase(&b, 0), PUNELOVASH_OK, "erase");
     ends(&b, OLD);
     SAME(erase_complete(&b, 0, 0), PUNELOVASH_OK, "erase_complete");
@@ -768,13 +879,13 @@ static void driver_words(void)
 
 /* a refusal leaves the log and every lent byte as before, and neither report nor request */
 #define REFUSED(b, call, number) do { \
-        uint8_t log_[32], page_[4096], hold_[4096], buffer_[4096]; \
-        memcpy(log_, (b)->block, sizeof log_); \
+        uint8_t log_[BLOCK_ROOM], page_[4096], hold_[4096], buffer_[4096]; \
+        memcpy(log_, (b)->block, board->at_report); \
         memcpy(page_, (b)->page, (b)->p); \
         memcpy(hold_, (b)->hold, (b)->p); \
         memcpy(buffer_, (b)->buffer, (b)->p); \
         SAME(call, number, "answer"); \
-        CHECK(memcmp(log_, (b)->block, sizeof log_) == 0, "the log changed"); \
+        CHECK(memcmp(log_, (b)->block, board->at_report) == 0, "the log changed"); \
         CHECK(memcmp(page_, (b)->page, (b)->p) == 0, "the page buffer changed"); \
         CHECK(memcmp(hold_, (b)->hold, (b)->p) == 0, "the hold buffer changed"); \
         CHECK(memcmp(buffer_, (b)->buffer, (b)->p) == 0, "the read buffer changed"); \
@@ -786,9 +897,9 @@ static void driver_words(void)
 static void put_sizes(uint8_t *block, uint32_t p, uint32_t n, uint32_t first)
 {
     for (size_t k = 0; k < 4; k++) {
-        block[PUNELOVASH_AT_PAGE_SIZE + k] = (uint8_t)(p >> 8 * k);
-        block[PUNELOVASH_AT_PAGE_COUNT + k] = (uint8_t)(n >> 8 * k);
-        block[PUNELOVASH_AT_FIRST_PAGE + k] = (uint8_t)(first >> 8 * k);
+        block[board->at_page_size + k] = (uint8_t)(p >> 8 * k);
+        block[board->at_page_count + k] = (uint8_t)(n >> 8 * k);
+        block[board->at_first_page + k] = (uint8_t)(first >> 8 * k);
     }
 }
 
@@ -805,7 +916,7 @@ static void refusals(void)
     SAME(sync_log(&b, 0), PUNELOVASH_OK, "sync");
     REFUSED(&b, append(&b, ones, 1, 1, 0), PUNELOVASH_BUSY);
     REFUSED(&b, read_into(&b, b.buffer, 32, 32), PUNELOVASH_BUSY);
-    REFUSED(&b, seek(&b, 4), PUNELOVASH_BUSY);
+    REFUSED(&b, seek(&b, w), PUNELOVASH_BUSY);
     REFUSED(&b, sync_log(&b, 0), PUNELOVASH_BUSY);
     REFUSED(&b, erase(&b, 0), PUNELOVASH_BUSY);
     REFUSED(&b, erase_complete(&b, 1, 0), PUNELOVASH_STRAY);
@@ -833,20 +944,20 @@ static void refusals(void)
     REFUSED(&b, read_into(&b, b.buffer, 32, SIZE_MAX), PUNELOVASH_INVAL);
 
     part = "SIZE";
-    REFUSED(&b, append(&b, ones, 4096, 25, 0), PUNELOVASH_SIZE);
+    REFUSED(&b, append(&b, ones, 4096, full(32) + 1, 0), PUNELOVASH_SIZE);
     REFUSED(&b, append(&b, ones, 4096, 4096, 0), PUNELOVASH_SIZE);
-    seek_done(&b, 4);
+    seek_done(&b, w);
     REFUSED(&b, read_into(&b, b.buffer, 32, 4), PUNELOVASH_SIZE);
     REFUSED(&b, read_into(&b, b.buffer, 0, 0), PUNELOVASH_SIZE);
     SAME(read_into(&b, b.buffer, 5, 5), PUNELOVASH_OK, "read of exactly the entry's length");
     SAME(deferred_call(&b), PUNELOVASH_OK, "deferred_call");
 
     part = "CANCEL";
-    b.block[PUNELOVASH_AT_READ] = 14; /* past A, which is 13 */
+    b.block[board->at_read] = (uint8_t)(after(5) + 1); /* past A */
     SAME(read_into(&b, b.buffer, 32, 32), PUNELOVASH_CANCEL, "read with R > A");
-    check_ids(&b, 4, 4, 13);
+    check_ids(&b, w, w, after(5));
     no_report(&b);
-    SAME(punelovash_state(b.block), PUNELOVASH_IDLE, "state");
+    SAME(board->state(b.block), PUNELOVASH_IDLE, "state");
     drop(&b);
 
     part = "RESERVE";
@@ -856,19 +967,19 @@ static void refusals(void)
     SAME(restart(&b), PUNELOVASH_OK, "restart with no client");
     REFUSED(&b, append(&b, ones, 5, 5, 0), PUNELOVASH_RESERVE);
     REFUSED(&b, read_into(&b, b.buffer, 32, 32), PUNELOVASH_RESERVE);
-    REFUSED(&b, seek(&b, 4), PUNELOVASH_RESERVE);
+    REFUSED(&b, seek(&b, w), PUNELOVASH_RESERVE);
     REFUSED(&b, erase(&b, 0), PUNELOVASH_RESERVE);
     REFUSED(&b, sync_log(&b, 0), PUNELOVASH_OK); /* nothing to write */
     b.append_client = 77; /* any number but 0 */
     SAME(restart(&b), PUNELOVASH_OK, "restart with an append client");
-    SAME(b.block[PUNELOVASH_AT_FLAGS], PUNELOVASH_CIRCULAR + PUNELOVASH_APPEND_CLIENT, "flags");
+    SAME(b.block[board->at_flags], PUNELOVASH_CIRCULAR + PUNELOVASH_APPEND_CLIENT, "flags");
     SAME(append(&b, ones, 5, 5, 0), PUNELOVASH_OK, "append");
     REFUSED(&b, read_into(&b, b.buffer, 32, 32), PUNELOVASH_RESERVE);
     drop(&b);
     make(&b, 32, 4, 0, 1);
     b.append_client = 0;
     SAME(restart(&b), PUNELOVASH_OK, "restart with a read client");
-    b.block[PUNELOVASH_AT_APPEND] = 13; /* as if there were an entry */
+    b.block[board->at_append] = (uint8_t)after(5); /* as if there were an entry */
     REFUSED(&b, sync_log(&b, 0), PUNELOVASH_RESERVE);
     REFUSED(&b, read_into(&b, b.buffer, 32, 32), PUNELOVASH_FAIL); /* length 0 is a bad entry header */
     drop(&b);
@@ -876,20 +987,20 @@ static void refusals(void)
     part = "flags";
     for (uint8_t flags = 0; flags < 8; flags++) {
         int circular = flags % 2, reads = flags / 2 % 2, appends = flags / 4;
-        make(&b, 16, 2, 0, circular ? 200 : 0);
+        make(&b, 4 * w, 2, 0, circular ? 200 : 0);
         b.read_client = reads ? 1 : 0;
         b.append_client = appends ? 255 : 0;
         b.block[13] = 77; /* not used */
         b.block[14] = 255;
         SAME(restart(&b), PUNELOVASH_OK, "restart");
-        SAME(b.block[PUNELOVASH_AT_FLAGS], flags, "flags");
-        SAME(seek(&b, 4), reads ? PUNELOVASH_OK : PUNELOVASH_RESERVE, "seek");
+        SAME(b.block[board->at_flags], flags, "flags");
+        SAME(seek(&b, w), reads ? PUNELOVASH_OK : PUNELOVASH_RESERVE, "seek");
         SAME(deferred_call(&b), PUNELOVASH_OK, "deferred_call");
         SAME(erase(&b, PUNELOVASH_WORD_BUSY), appends ? PUNELOVASH_BUSY : PUNELOVASH_RESERVE, "erase");
         SAME(restart(&b), PUNELOVASH_OK, "restart, as the state may be Erase");
-        b.block[PUNELOVASH_AT_APPEND] = 32; /* as if the log were full */
+        b.block[board->at_append] = (uint8_t)(8 * w); /* as if the log were full */
         SAME(append(&b, ones, 1, 1, PUNELOVASH_WORD_BUSY), !circular ? PUNELOVASH_FAIL : appends ? PUNELOVASH_BUSY : PUNELOVASH_RESERVE, "append");
-        SAME(b.block[PUNELOVASH_AT_FLAGS], flags, "flags after the calls");
+        SAME(b.block[board->at_flags], flags, "flags after the calls");
         SAME(b.block[13], 77, "byte 13");
         SAME(b.block[14], 255, "byte 14");
         drop(&b);
@@ -901,11 +1012,11 @@ static void refusals(void)
     v = volume_length(&b);
     append_entry(&b, &all, 5);
 #define SHAPE_OF(vl, pl, hl) do { \
-        REFUSED(&b, punelovash_append(b.block, 44, b.volume, vl, b.page, pl, b.hold, hl, ones, 5, 5, 0), PUNELOVASH_SHAPE); \
-        REFUSED(&b, punelovash_sync(b.block, 44, b.volume, vl, b.page, pl, b.hold, hl, 0), PUNELOVASH_SHAPE); \
-        REFUSED(&b, punelovash_write_complete(b.block, 44, b.volume, vl, b.page, pl, b.hold, hl, 1), PUNELOVASH_SHAPE); \
-        REFUSED(&b, punelovash_erase_complete(b.block, 44, b.volume, vl, b.page, pl, b.hold, hl, 1, 0), PUNELOVASH_SHAPE); \
-        REFUSED(&b, punelovash_restart(b.block, 44, 32, 4, 0, 1, 1, 1, b.volume, vl, b.page, pl, b.hold, hl), PUNELOVASH_SHAPE); \
+        REFUSED(&b, board->append(b.block, board->block_size, b.volume, vl, b.page, pl, b.hold, hl, ones, 5, 5, 0), PUNELOVASH_SHAPE); \
+        REFUSED(&b, board->sync(b.block, board->block_size, b.volume, vl, b.page, pl, b.hold, hl, 0), PUNELOVASH_SHAPE); \
+        REFUSED(&b, board->write_complete(b.block, board->block_size, b.volume, vl, b.page, pl, b.hold, hl, 1), PUNELOVASH_SHAPE); \
+        REFUSED(&b, board->erase_complete(b.block, board->block_size, b.volume, vl, b.page, pl, b.hold, hl, 1, 0), PUNELOVASH_SHAPE); \
+        REFUSED(&b, board->restart(b.block, board->block_size, 32, 4, 0, 1, 1, 1, b.volume, vl, b.page, pl, b.hold, hl), PUNELOVASH_SHAPE); \
         check_bench(&b); \
     } while (0)
     SHAPE_OF(v - 1, 32, 32);
@@ -915,139 +1026,142 @@ static void refusals(void)
     SHAPE_OF(v, 32, 31);
     SHAPE_OF(v, 32, 0);
     /* a read is lent no hold buffer */
-#define SHAPE_OF_READ(vl, pl) REFUSED(&b, punelovash_read(b.block, 44, b.volume, vl, b.page, pl, b.buffer, 32, 32), PUNELOVASH_SHAPE)
+#define SHAPE_OF_READ(vl, pl) REFUSED(&b, board->read(b.block, board->block_size, b.volume, vl, b.page, pl, b.buffer, 32, 32), PUNELOVASH_SHAPE)
     SHAPE_OF_READ(v - 1, 32);
     SHAPE_OF_READ(0, 32);
     SHAPE_OF_READ(v, 31);
     SHAPE_OF_READ(v, 0);
     check_bench(&b);
     {
-        uint8_t good[PUNELOVASH_BLOCK_SIZE];
-        static const struct { uint32_t p, n, first; } sizes[] = {
-            { 0, 4, 0 }, { 8, 4, 0 }, { 15, 4, 0 }, { 24, 4, 0 }, { 8192, 4, 0 }, { 32, 0, 0 }, { 32, 4097, 0 }, { 32, 4, 16777216 },
-            { 4294967295u, 4294967295u, 4294967295u }
+        uint8_t good[BLOCK_ROOM];
+        const struct { uint32_t p, n, first; } sizes[] = {
+            { 0, 4, 0 }, { 8, 4, 0 }, { 2 * w, 4, 0 }, { 15, 4, 0 }, { 24, 4, 0 }, { 8192, 4, 0 }, { 32, 0, 0 }, { 32, 4097, 0 },
+            { 32, 4, 16777216 }, { 4294967295u, 4294967295u, 4294967295u }
         };
         for (size_t k = 0; k < sizeof sizes / sizeof sizes[0]; k++) {
             size_t length = (size_t)sizes[k].p * sizes[k].n <= v ? (size_t)sizes[k].p * sizes[k].n : v;
-            REFUSED(&b, punelovash_restart(b.block, 44, sizes[k].p, sizes[k].n, sizes[k].first, 1, 1, 1, b.volume, length, b.page,
+            REFUSED(&b, board->restart(b.block, board->block_size, sizes[k].p, sizes[k].n, sizes[k].first, 1, 1, 1, b.volume, length, b.page,
                 sizes[k].p <= 32 ? sizes[k].p : 32, b.hold, sizes[k].p <= 32 ? sizes[k].p : 32), PUNELOVASH_SHAPE);
         }
         /* the calls that are lent the block alone: by the sizes in it, and with others that are allowed they pass */
-        memcpy(good, b.block, sizeof good);
+        memcpy(good, b.block, board->block_size);
         for (size_t k = 0; k < sizeof sizes / sizeof sizes[0]; k++) {
             put_sizes(b.block, sizes[k].p, sizes[k].n, sizes[k].first);
-            REFUSED(&b, seek(&b, 4), PUNELOVASH_SHAPE);
+            REFUSED(&b, seek(&b, w), PUNELOVASH_SHAPE);
             REFUSED(&b, erase(&b, 0), PUNELOVASH_SHAPE);
             REFUSED(&b, deferred_call(&b), PUNELOVASH_SHAPE);
             REFUSED(&b, read_into(&b, b.buffer, 32, 32), PUNELOVASH_SHAPE);
-            b.block[PUNELOVASH_AT_OLDEST] = 5;
-            REFUSED(&b, seek(&b, 4), PUNELOVASH_SHAPE); /* before STATE */
-            memcpy(b.block, good, sizeof good);
+            b.block[board->at_oldest] = (uint8_t)(w + 1);
+            REFUSED(&b, seek(&b, w), PUNELOVASH_SHAPE); /* before STATE */
+            memcpy(b.block, good, board->block_size);
         }
         put_sizes(b.block, 4096, 4096, 16777215);
-        seek_done(&b, 4);
-        SAME(punelovash_erase(b.block, 44, PUNELOVASH_WORD_BUSY), PUNELOVASH_BUSY, "erase with the greatest sizes");
+        seek_done(&b, w);
+        SAME(board->erase(b.block, board->block_size, PUNELOVASH_WORD_BUSY), PUNELOVASH_BUSY, "erase with the greatest sizes");
         check_request(&b, PUNELOVASH_ERASE, 16777215);
-        memcpy(b.block, good, sizeof good);
+        memcpy(b.block, good, board->block_size);
     }
     reads_back(&b, &all, 0);
 
     part = "STATE";
     {
-        uint8_t good[PUNELOVASH_BLOCK_SIZE], bad[PUNELOVASH_BLOCK_SIZE];
-        static const struct { uint8_t at, byte; } wrong[] = {
-            { PUNELOVASH_AT_FLAGS, 8 }, { PUNELOVASH_AT_FLAGS, 128 }, { PUNELOVASH_AT_FLAGS, 255 }, { PUNELOVASH_AT_STATE, 6 }
+        uint8_t good[BLOCK_ROOM], bad[BLOCK_ROOM];
+        const struct { size_t at; uint8_t byte; } wrong[] = {
+            { board->at_flags, 8 }, { board->at_flags, 128 }, { board->at_flags, 255 }, { board->at_state, 6 }
         };
-        memcpy(good, b.block, sizeof good);
+        memcpy(good, b.block, board->block_size);
 #define NO_LOG(block_, length_) do { \
-        SAME(punelovash_append(block_, length_, b.volume, v, b.page, 32, b.hold, 32, ones, 5, 5, 0), PUNELOVASH_STATE, "append"); \
-        SAME(punelovash_read(block_, length_, b.volume, v, b.page, 32, b.buffer, 32, 32), PUNELOVASH_STATE, "read"); \
-        SAME(punelovash_seek(block_, length_, 4), PUNELOVASH_STATE, "seek"); \
-        SAME(punelovash_sync(block_, length_, b.volume, v, b.page, 32, b.hold, 32, 0), PUNELOVASH_STATE, "sync"); \
-        SAME(punelovash_erase(block_, length_, 0), PUNELOVASH_STATE, "erase"); \
-        SAME(punelovash_write_complete(block_, length_, b.volume, v, b.page, 32, b.hold, 32, 1), PUNELOVASH_STATE, "write_complete"); \
-        SAME(punelovash_erase_complete(block_, length_, b.volume, v, b.page, 32, b.hold, 32, 1, 0), PUNELOVASH_STATE, "erase_complete"); \
-        SAME(punelovash_deferred_call(block_, length_), PUNELOVASH_STATE, "deferred_call"); \
-        SAME(punelovash_log_start(block_, length_), 0, "log_start"); \
-        SAME(punelovash_log_end(block_, length_), 0, "log_end"); \
-        SAME(punelovash_next_read_entry_id(block_, length_), 0, "next_read_entry_id"); \
-        SAME(punelovash_get_size(block_, length_), 0, "get_size"); \
+        SAME(board->append(block_, length_, b.volume, v, b.page, 32, b.hold, 32, ones, 5, 5, 0), PUNELOVASH_STATE, "append"); \
+        SAME(board->read(block_, length_, b.volume, v, b.page, 32, b.buffer, 32, 32), PUNELOVASH_STATE, "read"); \
+        SAME(board->seek(block_, length_, w), PUNELOVASH_STATE, "seek"); \
+        SAME(board->sync(block_, length_, b.volume, v, b.page, 32, b.hold, 32, 0), PUNELOVASH_STATE, "sync"); \
+        SAME(board->erase(block_, length_, 0), PUNELOVASH_STATE, "erase"); \
+        SAME(board->write_complete(block_, length_, b.volume, v, b.page, 32, b.hold, 32, 1), PUNELOVASH_STATE, "write_complete"); \
+        SAME(board->erase_complete(block_, length_, b.volume, v, b.page, 32, b.hold, 32, 1, 0), PUNELOVASH_STATE, "erase_complete"); \
+        SAME(board->deferred_call(block_, length_), PUNELOVASH_STATE, "deferred_call"); \
+        SAME(board->log_start(block_, length_), 0, "log_start"); \
+        SAME(board->log_end(block_, length_), 0, "log_end"); \
+        SAME(board->next_read_entry_id(block_, length_), 0, "next_read_entry_id"); \
+        SAME(board->get_size(block_, length_), 0, "get_size"); \
         check_bench(&b); \
     } while (0)
         for (size_t k = 0; k < sizeof wrong / sizeof wrong[0]; k++) {
             b.block[wrong[k].at] = wrong[k].byte;
-            memcpy(bad, b.block, sizeof bad);
-            NO_LOG(b.block, 44);
-            CHECK(memcmp(b.block, bad, sizeof bad) == 0, "a block that holds no log changed");
-            memcpy(b.block, good, sizeof good);
+            memcpy(bad, b.block, board->block_size);
+            NO_LOG(b.block, board->block_size);
+            CHECK(memcmp(b.block, bad, board->block_size) == 0, "a block that holds no log changed");
+            memcpy(b.block, good, board->block_size);
         }
-        memset(b.block, 0xEE, sizeof good);
+        memset(b.block, 0xEE, board->block_size);
         memset(bad, 0xEE, sizeof bad);
-        NO_LOG(b.block, 44);
-        CHECK(memcmp(b.block, bad, sizeof bad) == 0, "a block of garbage changed");
-        memcpy(b.block, good, sizeof good);
+        NO_LOG(b.block, board->block_size);
+        CHECK(memcmp(b.block, bad, board->block_size) == 0, "a block of garbage changed");
+        memcpy(b.block, good, board->block_size);
 
-        /* other lengths; the bytes around the block are the guards' */
-        NO_LOG(b.block, 43);
-        NO_LOG(b.block, 45);
-        NO_LOG(b.block, 0);
-        SAME(punelovash_restart(b.block, 43, 32, 4, 0, 1, 1, 1, b.volume, v, b.page, 32, b.hold, 32), PUNELOVASH_STATE, "restart of 43 bytes");
-        SAME(punelovash_restart(b.block, 45, 32, 4, 0, 1, 1, 1, b.volume, v, b.page, 32, b.hold, 32), PUNELOVASH_STATE, "restart of 45 bytes");
-        SAME(punelovash_restart(b.block, 0, 0, 0, 0, 1, 1, 1, b.volume, 0, b.page, 0, b.hold, 0), PUNELOVASH_STATE, "restart of no bytes");
-        CHECK(memcmp(b.block, good, sizeof good) == 0, "a block of another length changed");
+        /* other lengths, the other board's among them; the bytes around the block are the guards' */
+        {
+            const size_t lengths[] = { board->block_size - 1, board->block_size + 1, 0,
+                PUNELOVASH_BLOCK_SIZE + PUNELOVASH8_BLOCK_SIZE - board->block_size };
+            for (size_t k = 0; k < sizeof lengths / sizeof lengths[0]; k++) {
+                NO_LOG(b.block, lengths[k]);
+                SAME(board->restart(b.block, lengths[k], 32, 4, 0, 1, 1, 1, b.volume, v, b.page, 32, b.hold, 32), PUNELOVASH_STATE, "restart");
+            }
+        }
+        SAME(board->restart(b.block, 0, 0, 0, 0, 1, 1, 1, b.volume, 0, b.page, 0, b.hold, 0), PUNELOVASH_STATE, "restart of no bytes");
+        CHECK(memcmp(b.block, good, board->block_size) == 0, "a block of another length changed");
 
         /* no log by its flags comes before SHAPE */
-        b.block[PUNELOVASH_AT_FLAGS] = 8;
-        SAME(punelovash_sync(b.block, 44, b.volume, v - 1, b.page, 32, b.hold, 32, 0), PUNELOVASH_STATE, "STATE before SHAPE");
-        memcpy(b.block, good, sizeof good);
+        b.block[board->at_flags] = 8;
+        SAME(board->sync(b.block, board->block_size, b.volume, v - 1, b.page, 32, b.hold, 32, 0), PUNELOVASH_STATE, "STATE before SHAPE");
+        memcpy(b.block, good, board->block_size);
 
         /* IDs that are no log's; SHAPE comes first there */
-        b.block[PUNELOVASH_AT_OLDEST] = 5;
+        b.block[board->at_oldest] = (uint8_t)(w + 1);
         REFUSED(&b, append(&b, ones, 5, 5, 0), PUNELOVASH_STATE);
         REFUSED(&b, sync_log(&b, 0), PUNELOVASH_STATE);
         REFUSED(&b, write_complete(&b, 1), PUNELOVASH_STATE);
-        REFUSED(&b, punelovash_sync(b.block, 44, b.volume, v - 1, b.page, 32, b.hold, 32, 0), PUNELOVASH_SHAPE);
-        memcpy(b.block, good, sizeof good);
-        b.block[PUNELOVASH_AT_APPEND] = 3;
+        REFUSED(&b, board->sync(b.block, board->block_size, b.volume, v - 1, b.page, 32, b.hold, 32, 0), PUNELOVASH_SHAPE);
+        memcpy(b.block, good, board->block_size);
+        b.block[board->at_append] = (uint8_t)(w - 1);
         REFUSED(&b, deferred_call(&b), PUNELOVASH_STATE);
-        memcpy(b.block, good, sizeof good);
-        b.block[PUNELOVASH_AT_READ + 3] = 0x80;
-        REFUSED(&b, seek(&b, 4), PUNELOVASH_STATE);
-        memcpy(b.block, good, sizeof good);
-        b.block[PUNELOVASH_AT_KEPT] = 25;
+        memcpy(b.block, good, board->block_size);
+        b.block[board->at_read + w - 1] = 0x80;
+        REFUSED(&b, seek(&b, w), PUNELOVASH_STATE);
+        memcpy(b.block, good, board->block_size);
+        b.block[board->at_kept] = (uint8_t)(full(32) + 1);
         REFUSED(&b, erase(&b, 0), PUNELOVASH_STATE);
-        memcpy(b.block, good, sizeof good);
+        memcpy(b.block, good, board->block_size);
         SAME(restart(&b), PUNELOVASH_OK, "restart after all that");
     }
     drop(&b);
 }
 
 /* the IDs of the pages on flash are `from` and each P more, up to `to` */
-static void check_survey(struct bench *b, size_t from, size_t to)
+static void check_survey(struct bench *b, uint64_t from, uint64_t to)
 {
-    enum { ROOM = 16 };
-    uint32_t ids[ROOM];
-    size_t count = 77, pages = (to - from) / b->p;
+    const uint64_t mark = UINT64_MAX >> (64 - 8 * w);
+    uint64_t ids[ROOM];
+    size_t count = 77, pages = (size_t)((to - from) / b->p);
     for (size_t room = 0; room < ROOM; room++) {
         uint32_t answer;
-        for (size_t k = 0; k < ROOM; k++) ids[k] = 0xABABABABu;
+        for (size_t k = 0; k < ROOM; k++) ids[k] = mark;
         count = 77;
-        answer = punelovash_survey(b->p, b->n, b->first, b->volume, volume_length(b), ids, room, &count);
+        answer = board->survey(b->p, b->n, b->first, b->volume, volume_length(b), ids, room, &count);
         check_bench(b);
         SAME(answer, room < pages ? PUNELOVASH_SIZE : PUNELOVASH_OK, "survey");
         SAME(count, room < pages ? 77 : pages, "the survey's count");
-        for (size_t k = room < pages ? 0 : pages; k < ROOM; k++) SAME(ids[k], 0xABABABABu, "an element after the count");
-        for (size_t id = from; id < to && room >= pages; id += b->p) {
+        for (size_t k = room < pages ? 0 : pages; k < ROOM; k++) SAME(ids[k], mark, "an element after the count");
+        for (uint64_t id = from; id < to && room >= pages; id += b->p) {
             int times = 0;
             for (size_t k = 0; k < pages; k++) times += ids[k] == id;
             SAME(times, 1, "how often an ID was written");
         }
     }
     count = 77;
-    SAME(punelovash_survey(b->p, b->n, b->first, b->volume, volume_length(b) - 1, ids, ROOM, &count), PUNELOVASH_SHAPE, "survey");
-    SAME(punelovash_survey(b->p + 1, b->n, b->first, b->volume, volume_length(b), ids, ROOM, &count), PUNELOVASH_SHAPE, "survey");
-    SAME(punelovash_survey(b->p, 0, b->first, b->volume, 0, ids, ROOM, &count), PUNELOVASH_SHAPE, "survey");
-    SAME(punelovash_survey(b->p, b->n, 16777216, b->volume, volume_length(b), ids, ROOM, &count), PUNELOVASH_SHAPE, "survey");
+    SAME(board->survey(b->p, b->n, b->first, b->volume, volume_length(b) - 1, ids, ROOM, &count), PUNELOVASH_SHAPE, "survey");
+    SAME(board->survey(b->p + 1, b->n, b->first, b->volume, volume_length(b), ids, ROOM, &count), PUNELOVASH_SHAPE, "survey");
+    SAME(board->survey(b->p, 0, b->first, b->volume, 0, ids, ROOM, &count), PUNELOVASH_SHAPE, "survey");
+    SAME(board->survey(b->p, b->n, 16777216, b->volume, volume_length(b), ids, ROOM, &count), PUNELOVASH_SHAPE, "survey");
     SAME(count, 77, "the count after SHAPE");
 }
 
@@ -1059,12 +1173,17 @@ static void survey(void)
     all.count = 0;
     fresh(&b, 32, 4, 0, 1);
     check_survey(&b, 0, 0);
-    append_entry(&b, &all, 24);
+    append_entry(&b, &all, full(32));
     check_survey(&b, 0, 0);
-    append_entry(&b, &all, 24);
+    append_entry(&b, &all, full(32));
     check_survey(&b, 0, 32);
-    for (int k = 0; k < 20; k++) append_entry(&b, &all, 24); /* pages 17 to 20 on flash, 21 in the buffer */
+    for (int k = 0; k < 20; k++) append_entry(&b, &all, full(32)); /* pages 17 to 20 on flash, 21 in the buffer */
     check_survey(&b, 17 * 32, 21 * 32);
+    drop(&b);
+
+    make(&b, 32, 4, 0, 1);
+    for (uint32_t k = 1; k <= 4; k++) put_page(&b, board->ceiling - k * 32, full(32));
+    check_survey(&b, board->ceiling - 4 * 32, board->ceiling);
     drop(&b);
 }
 
@@ -1075,15 +1194,15 @@ static void plain(void)
     part = "a plain log";
     all.count = 0;
     fresh(&b, 32, 4, 0, 0);
-    for (int k = 0; k < 4; k++) append_entry(&b, &all, 24);
-    check_ids(&b, 4, 4, 128);
+    for (int k = 0; k < 4; k++) append_entry(&b, &all, full(32));
+    check_ids(&b, w, w, 128);
     REFUSED(&b, append(&b, ones, 1, 1, 0), PUNELOVASH_FAIL);
     synced(&b, NEW, 1);
-    check_ids(&b, 4, 4, 128); /* no page is opened after the last */
-    REFUSED(&b, append(&b, ones, 24, 24, 0), PUNELOVASH_FAIL);
+    check_ids(&b, w, w, 128); /* no page is opened after the last */
+    REFUSED(&b, append(&b, ones, full(32), full(32), 0), PUNELOVASH_FAIL);
     reads_back(&b, &all, 0);
     SAME(restart(&b), PUNELOVASH_OK, "restart");
-    check_ids(&b, 4, 4, 128);
+    check_ids(&b, w, w, 128);
     reads_back(&b, &all, 0);
     drop(&b);
 
@@ -1091,23 +1210,25 @@ static void plain(void)
     all.count = 0;
     fresh(&b, 32, 1, 0, 0);
     append_entry(&b, &all, 5);
-    REFUSED(&b, append(&b, ones, 24, 24, 0), PUNELOVASH_FAIL);
-    append_entry(&b, &all, 15);
+    REFUSED(&b, append(&b, ones, full(32), full(32), 0), PUNELOVASH_FAIL);
+    append_entry(&b, &all, rest(32, 5));
     synced(&b, NEW, 1);
     SAME(restart(&b), PUNELOVASH_OK, "restart");
-    check_ids(&b, 4, 4, 32);
+    check_ids(&b, w, w, 32);
     reads_back(&b, &all, 0);
     drop(&b);
 }
 
-int main(void)
+static void test(const struct board *tested)
 {
-    memset(ones, 1, sizeof ones);
+    board = tested;
+    w = board->w;
     worked_cases();
-    laps(64, 4, 400);
-    laps(16, 1, 300);
-    laps(256, 3, 100);
-    laps(4096, 2, 200);
+    laps(16 * w, 4, 400, 0);
+    laps(4 * w, 1, 300, 0);
+    laps(256, 3, 100, 0);
+    laps(4096, 2, 200, 0);
+    laps(64, 4, 400, board->ceiling / 2 + 64);
     for (int left = OLD; left <= NEW; left++) {
         cut_in_sync((enum left)left);
         cut_in_append((enum left)left);
@@ -1119,6 +1240,13 @@ int main(void)
     refusals();
     survey();
     plain();
+}
+
+int main(void)
+{
+    memset(ones, 1, sizeof ones);
+    test(&punelovash);
+    test(&punelovash8);
     printf("C: %lu calls, %lu checks\n", calls, checks);
     return 0;
 }

@@ -8,7 +8,7 @@ use std::process::Command;
 /// How often the calls of a row are measured in one run.
 const TIMES: usize = 2;
 
-/// callgrind counts from here to the return. The loop around the calls is counted too; it is the same on both sides.
+/// callgrind counts from here to the return. The loop around the calls is counted too; it is the same on every side.
 #[no_mangle]
 #[inline(never)]
 fn counted(calls: &mut dyn FnMut()) {

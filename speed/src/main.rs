@@ -1,8 +1,8 @@
-//! Drives Tock's `Log` and the proved log by the same calls, and compares what they cost.
+//! Drives Tock's `Log` and the proved log of both boards by the same calls, and compares what they cost.
 //!
 //!     speed tables [WHOLE]   times, instructions (by valgrind), the growth of restart, stack use; WHOLE is this program in the profile `whole`
 //!     speed rows             the names of the rows
-//!     speed count ROW SIDE   a row's calls, once, for callgrind; SIDE is rust or rattle
+//!     speed count ROW SIDE   a row's calls, once, for callgrind; SIDE is rust, punelovash8 or punelovash
 
 mod count;
 #[rustfmt::skip] // not ours to format
@@ -36,9 +36,10 @@ fn count(name: &str, side: &str) -> bool {
         return false;
     };
     match (side, row.page_size) {
-        ("rattle", _) => count::run::<Rattle>(&row),
         ("rust", 512) => count::run::<Original<512>>(&row),
         ("rust", 4096) => count::run::<Original<4096>>(&row),
+        ("punelovash8", _) => count::run::<Rattle<u64>>(&row),
+        ("punelovash", _) => count::run::<Rattle<u32>>(&row),
         _ => return false,
     }
     true
@@ -60,7 +61,7 @@ fn main() -> ExitCode {
     let arguments: Vec<String> = std::env::args().skip(1).collect();
     let words: Vec<&str> = arguments.iter().map(String::as_str).collect();
     if !run(&words) {
-        eprintln!("usage: speed tables [WHOLE] | rows | count ROW rust|rattle");
+        eprintln!("usage: speed tables [WHOLE] | rows | count ROW SIDE");
         return ExitCode::from(2);
     }
     ExitCode::SUCCESS

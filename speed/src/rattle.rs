@@ -1,114 +1,9 @@
-//! The proved log, through the functions of the static library.
+//! The proved log, through the functions of a board's archive.
 
 use crate::memory::Volume;
 use crate::side::Side;
-
-/// The library's functions. A slice is passed as a pointer and a length.
-mod library {
-    unsafe extern "C" {
-        pub fn punelovash_restart(
-            block: *mut u8,
-            block_length: usize,
-            page_size: u32,
-            page_count: u32,
-            first_page: u32,
-            circular: u8,
-            read_client: u8,
-            append_client: u8,
-            volume: *const u8,
-            volume_length: usize,
-            page: *mut u8,
-            page_length: usize,
-            hold: *const u8,
-            hold_length: usize,
-        ) -> u32;
-        pub fn punelovash_append(
-            block: *mut u8,
-            block_length: usize,
-            volume: *const u8,
-            volume_length: usize,
-            page: *mut u8,
-            page_length: usize,
-            hold: *mut u8,
-            hold_length: usize,
-            data: *const u8,
-            data_length: usize,
-            length: usize,
-            word: u8,
-        ) -> u32;
-        pub fn punelovash_read(
-            block: *mut u8,
-            block_length: usize,
-            volume: *const u8,
-            volume_length: usize,
-            page: *const u8,
-            page_length: usize,
-            buffer: *mut u8,
-            buffer_length: usize,
-            length: usize,
-        ) -> u32;
-        pub fn punelovash_seek(block: *mut u8, block_length: usize, entry_id: usize) -> u32;
-        pub fn punelovash_sync(
-            block: *mut u8,
-            block_length: usize,
-            volume: *const u8,
-            volume_length: usize,
-            page: *mut u8,
-            page_length: usize,
-            hold: *const u8,
-            hold_length: usize,
-            word: u8,
-        ) -> u32;
-        pub fn punelovash_erase(block: *mut u8, block_length: usize, word: u8) -> u32;
-        pub fn punelovash_write_complete(
-            block: *mut u8,
-            block_length: usize,
-            volume: *const u8,
-            volume_length: usize,
-            page: *mut u8,
-            page_length: usize,
-            hold: *const u8,
-            hold_length: usize,
-            good: u8,
-        ) -> u32;
-        pub fn punelovash_erase_complete(
-            block: *mut u8,
-            block_length: usize,
-            volume: *const u8,
-            volume_length: usize,
-            page: *mut u8,
-            page_length: usize,
-            hold: *const u8,
-            hold_length: usize,
-            good: u8,
-            word: u8,
-        ) -> u32;
-        pub fn punelovash_deferred_call(block: *mut u8, block_length: usize) -> u32;
-        pub fn punelovash_survey(
-            page_size: u32,
-            page_count: u32,
-            first_page: u32,
-            volume: *const u8,
-            volume_length: usize,
-            ids: *mut u32,
-            ids_length: usize,
-            count: *mut usize,
-        ) -> u32;
-        pub fn punelovash_log_start(block: *const u8, block_length: usize) -> usize;
-        pub fn punelovash_log_end(block: *const u8, block_length: usize) -> usize;
-        pub fn punelovash_next_read_entry_id(block: *const u8, block_length: usize) -> usize;
-        pub fn punelovash_get_size(block: *const u8, block_length: usize) -> usize;
-    }
-}
-
-/// Places in the block, as crates/capi/specs/Block.antt has them.
-const OLDEST: usize = 16;
-const APPEND: usize = 24;
-const REPORT_KIND: usize = 32;
-const REPORT_RESULT: usize = 34;
-const REQUEST_KIND: usize = 35;
-const REPORT_LENGTH: usize = 36;
-const REQUEST_PAGE: usize = 40;
+use punelovash::raw::At;
+use punelovash::Word;
 
 /// The kind of a request for a write.
 const WRITE: u8 = 1;
@@ -116,18 +11,8 @@ const WRITE: u8 = 1;
 /// The driver's word.
 const OK: u8 = 0;
 
-type Getter = unsafe extern "C" fn(*const u8, usize) -> usize;
-
-/// The getters, by name.
-pub const GETTERS: [(&str, Getter); 4] = [
-    ("log_start", library::punelovash_log_start),
-    ("log_end", library::punelovash_log_end),
-    ("next_read_entry_id", library::punelovash_next_read_entry_id),
-    ("get_size", library::punelovash_get_size),
-];
-
-pub struct Rattle {
-    block: [u8; 44],
+pub struct Rattle<W: Word> {
+    block: W::Block,
     lent: &'static [u8],
     page: Box<[u8]>,
     hold: Box<[u8]>,
@@ -139,22 +24,31 @@ pub struct Rattle {
     volume: Volume,
 }
 
-impl Rattle {
-    fn word(&self, at: usize) -> u32 {
-        u32::from_le_bytes(self.block[at..at + 4].try_into().expect("4 bytes"))
+impl<W: Word> Rattle<W> {
+    /// A number of 4 bytes in the block.
+    fn number(&self, at: usize) -> u32 {
+        let bytes = &self.block.as_ref()[at..at + 4];
+        u32::from_le_bytes(bytes.try_into().expect("4 bytes"))
+    }
+
+    /// An ID in the block.
+    fn id(&self, at: usize) -> usize {
+        let mut bytes = [0; 8];
+        bytes[..W::BYTES].copy_from_slice(&self.block.as_ref()[at..][..W::BYTES]);
+        usize::from_le_bytes(bytes)
     }
 
     /// The survey, into a slice with room for every page.
-    pub fn survey(&mut self, ids: &mut [u32]) {
+    pub fn survey(&mut self, ids: &mut [W]) {
         let mut count = 0;
         let answer = unsafe {
-            library::punelovash_survey(
+            W::survey(
                 self.page.len() as u32,
                 self.page_count,
                 0,
                 self.lent.as_ptr(),
                 self.lent.len(),
-                ids.as_mut_ptr(),
+                ids.as_mut_ptr().cast(),
                 ids.len(),
                 &mut count,
             )
@@ -162,10 +56,11 @@ impl Rattle {
         assert!(answer == 0 && count > 0);
     }
 
-    /// One of the four getters.
-    pub fn get(&self, getter: Getter) {
-        let number = unsafe { getter(self.block.as_ptr(), self.block.len()) };
-        assert!(number > 0);
+    /// One of the getters; its number is above 0.
+    #[inline(always)]
+    pub fn get(&self, getter: impl FnOnce(*const u8, usize) -> bool) {
+        let block = self.block.as_ref();
+        assert!(getter(block.as_ptr(), block.len()));
     }
 
     /// A caller looks at what a call can give: the answer ..
@@ -177,9 +72,9 @@ impl Rattle {
     /// .. the report ..
     #[inline(always)]
     fn take_report(&mut self) {
-        if self.block[REPORT_KIND] != 0 {
-            self.length = self.word(REPORT_LENGTH);
-            if self.block[REPORT_RESULT] == 0 {
+        if self.block.as_ref()[At::<W>::REPORT] != 0 {
+            self.length = self.number(At::<W>::REPORT_LENGTH);
+            if self.block.as_ref()[At::<W>::REPORT_RESULT] == 0 {
                 self.reports += 1;
             }
         }
@@ -188,19 +83,19 @@ impl Rattle {
     /// .. and the request.
     #[inline(always)]
     fn take_request(&mut self) {
-        if self.block[REQUEST_KIND] == WRITE {
-            self.slot = Some(self.word(REQUEST_PAGE));
+        if self.block.as_ref()[At::<W>::REQUEST] == WRITE {
+            self.slot = Some(self.number(At::<W>::REQUEST_PAGE));
         }
     }
 }
 
-impl Side for Rattle {
-    const WORD: usize = 4;
+impl<W: Word> Side for Rattle<W> {
+    const WORD: usize = W::BYTES;
 
     fn new(page_size: usize, page_count: usize) -> Self {
         let volume = Volume::new(&vec![0xFF; page_size * page_count]);
         let mut side = Rattle {
-            block: [0; 44],
+            block: W::ZEROS,
             // Only used while the volume is there.
             lent: unsafe { volume.lend() },
             page: vec![0; page_size].into(),
@@ -218,10 +113,11 @@ impl Side for Rattle {
 
     #[inline(always)]
     fn restart(&mut self) {
+        let block = self.block.as_mut();
         let answer = unsafe {
-            library::punelovash_restart(
-                self.block.as_mut_ptr(),
-                self.block.len(),
+            W::restart(
+                block.as_mut_ptr(),
+                block.len(),
                 self.page.len() as u32,
                 self.page_count,
                 0,
@@ -241,10 +137,11 @@ impl Side for Rattle {
 
     #[inline(always)]
     fn append(&mut self, length: usize) {
+        let block = self.block.as_mut();
         let answer = unsafe {
-            library::punelovash_append(
-                self.block.as_mut_ptr(),
-                self.block.len(),
+            W::append(
+                block.as_mut_ptr(),
+                block.len(),
                 self.lent.as_ptr(),
                 self.lent.len(),
                 self.page.as_mut_ptr(),
@@ -264,10 +161,11 @@ impl Side for Rattle {
 
     #[inline(always)]
     fn read(&mut self) {
+        let block = self.block.as_mut();
         let answer = unsafe {
-            library::punelovash_read(
-                self.block.as_mut_ptr(),
-                self.block.len(),
+            W::read(
+                block.as_mut_ptr(),
+                block.len(),
                 self.lent.as_ptr(),
                 self.lent.len(),
                 self.page.as_ptr(),
@@ -282,17 +180,18 @@ impl Side for Rattle {
 
     #[inline(always)]
     fn seek(&mut self, id: usize) {
-        let answer =
-            unsafe { library::punelovash_seek(self.block.as_mut_ptr(), self.block.len(), id) };
+        let block = self.block.as_mut();
+        let answer = unsafe { W::seek(block.as_mut_ptr(), block.len(), id as u64) };
         self.accepted(answer);
     }
 
     #[inline(always)]
     fn sync(&mut self) {
+        let block = self.block.as_mut();
         let answer = unsafe {
-            library::punelovash_sync(
-                self.block.as_mut_ptr(),
-                self.block.len(),
+            W::sync(
+                block.as_mut_ptr(),
+                block.len(),
                 self.lent.as_ptr(),
                 self.lent.len(),
                 self.page.as_mut_ptr(),
@@ -308,18 +207,19 @@ impl Side for Rattle {
 
     #[inline(always)]
     fn erase(&mut self) {
-        let answer =
-            unsafe { library::punelovash_erase(self.block.as_mut_ptr(), self.block.len(), OK) };
+        let block = self.block.as_mut();
+        let answer = unsafe { W::erase(block.as_mut_ptr(), block.len(), OK) };
         self.accepted(answer);
     }
 
     #[inline(always)]
     fn write_complete(&mut self) {
+        let block = self.block.as_mut();
         self.slot = None;
         let answer = unsafe {
-            library::punelovash_write_complete(
-                self.block.as_mut_ptr(),
-                self.block.len(),
+            W::write_complete(
+                block.as_mut_ptr(),
+                block.len(),
                 self.lent.as_ptr(),
                 self.lent.len(),
                 self.page.as_mut_ptr(),
@@ -335,10 +235,11 @@ impl Side for Rattle {
 
     #[inline(always)]
     fn erase_complete(&mut self) {
+        let block = self.block.as_mut();
         let answer = unsafe {
-            library::punelovash_erase_complete(
-                self.block.as_mut_ptr(),
-                self.block.len(),
+            W::erase_complete(
+                block.as_mut_ptr(),
+                block.len(),
                 self.lent.as_ptr(),
                 self.lent.len(),
                 self.page.as_mut_ptr(),
@@ -355,8 +256,8 @@ impl Side for Rattle {
 
     #[inline(always)]
     fn deferred_call(&mut self) {
-        let answer =
-            unsafe { library::punelovash_deferred_call(self.block.as_mut_ptr(), self.block.len()) };
+        let block = self.block.as_mut();
+        let answer = unsafe { W::deferred_call(block.as_mut_ptr(), block.len()) };
         self.accepted(answer);
         self.take_report();
     }
@@ -366,11 +267,11 @@ impl Side for Rattle {
     }
 
     fn oldest(&self) -> usize {
-        self.word(OLDEST) as usize
+        self.id(At::<W>::OLDEST)
     }
 
     fn end(&self) -> usize {
-        self.word(APPEND) as usize
+        self.id(At::<W>::APPEND)
     }
 
     #[inline(always)]

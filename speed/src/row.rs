@@ -77,7 +77,7 @@ const fn row(
 /// The logs of a row whose calls can't be repeated at once.
 const MANY: usize = 32;
 
-/// Pages of 512 bytes hold 7 entries of 64 bytes on both sides.
+/// Pages of 512 bytes hold 7 entries of 64 bytes on every side.
 const PAGE_ENTRIES: usize = 7;
 
 pub fn rows() -> Vec<Row> {
@@ -213,7 +213,7 @@ impl Row {
         (0..self.page_count + 2).for_each(|_| next_page(log, length));
     }
 
-    /// One and a half times around the volume, and the last page is written too. Both sides have as many entries in a page, each as long on flash,
+    /// One and a half times around the volume, and the last page is written too. All sides have as many entries in a page, each as long on flash,
     /// but for the last one of a page: it leaves `left` bytes.
     fn fill_volume<S: Side>(&self, log: &mut S) {
         let entries = self.page_size / self.data;

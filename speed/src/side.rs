@@ -1,4 +1,8 @@
-//! What is measured, and the same for both: one log with its volume, its buffers and its client.
+//! What is measured, and the same for all sides: one log with its volume, its buffers and its client.
+
+/// The sides, in the order in which they are measured: Tock's `Log` as it is built for 64 bits, with words of 8 bytes; the
+/// proved log with words of 8 bytes, and with words of 4.
+pub const SIDES: [&str; 3] = ["rust", "punelovash8", "punelovash"];
 
 /// A log that is driven. Every call is expected to be accepted: a refusal ends the program.
 ///

@@ -1,8 +1,9 @@
 //! The stack that a call uses: it runs on a stack of its own, painted beforehand, and the deepest byte that changed is looked for.
 
 use crate::original::Original;
-use crate::rattle::{Rattle, GETTERS};
-use crate::side::{fill_page, flush, next_page, Side};
+use crate::rattle::Rattle;
+use crate::side::{fill_page, flush, next_page, Side, SIDES};
+use punelovash::Word;
 use std::arch::asm;
 use std::ffi::c_void;
 
@@ -51,15 +52,17 @@ fn used(mut call: impl FnMut()) -> usize {
     depth(&mut call) - (depth(&mut || ()) - RETURN)
 }
 
+/// Calls, each with its use.
+type Uses = Vec<(&'static str, usize)>;
+
 pub struct Use {
     pub call: &'static str,
-    /// Nothing where the Rust has no such call, or no function of its own for it.
-    pub rust: Option<usize>,
-    pub rattle: usize,
+    /// Of each side. Nothing where the Rust has no such call, or no function of its own for it.
+    pub sides: [Option<usize>; SIDES.len()],
 }
 
 /// The deepest of each call, over the ways through it that a log which works takes.
-fn uses<S: Side>() -> Vec<(&'static str, usize)> {
+fn uses<S: Side>() -> Uses {
     let mut side = S::new(512, 4);
     let log = &mut side;
     let mut all = vec![("restart", used(|| log.restart()))];
@@ -92,26 +95,39 @@ fn uses<S: Side>() -> Vec<(&'static str, usize)> {
 }
 
 /// The calls of the library that `Log` has not, or reads a cell for.
-fn others() -> Vec<Use> {
-    let mut side = Rattle::new(512, 4);
-    let mut ids = [0; 4];
+fn others<W: Word>() -> Uses {
+    let mut side = Rattle::<W>::new(512, 4);
+    let mut ids = [W::from(0); 4];
     next_page(&mut side, 64);
-    let mut all = vec![("survey", used(|| side.survey(&mut ids)))];
-    all.extend(GETTERS.map(|(name, getter)| (name, used(|| side.get(getter)))));
-    let of = |(call, rattle)| Use {
-        call,
-        rust: None,
-        rattle,
-    };
-    all.into_iter().map(of).collect()
+    macro_rules! get {
+        ($getter:ident) => {{
+            let above_0 = |block, length| unsafe { W::$getter(block, length) } > 0;
+            (stringify!($getter), used(|| side.get(above_0)))
+        }};
+    }
+    vec![
+        ("survey", used(|| side.survey(&mut ids))),
+        get!(log_start),
+        get!(log_end),
+        get!(next_read_entry_id),
+        get!(get_size),
+    ]
+}
+
+/// All calls of a board's log.
+fn board<W: Word>() -> Uses {
+    let mut all = uses::<Rattle<W>>();
+    all.extend(others::<W>());
+    all
 }
 
 pub fn table() -> Vec<Use> {
-    let both = uses::<Original<512>>().into_iter().zip(uses::<Rattle>());
-    let of = |((call, rust), (_, rattle))| Use {
-        call,
-        rust: Some(rust),
-        rattle,
+    let sides = [uses::<Original<512>>(), board::<u64>(), board::<u32>()];
+    let use_of = |call: usize| Use {
+        call: sides[1][call].0,
+        sides: sides
+            .each_ref()
+            .map(|side| side.get(call).map(|(_, used)| *used)),
     };
-    both.map(of).chain(others()).collect()
+    (0..sides[1].len()).map(use_of).collect()
 }

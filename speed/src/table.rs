@@ -2,16 +2,20 @@
 
 use crate::count;
 use crate::row::{rows, Kind, Row};
+use crate::side::SIDES;
 use crate::stack;
 use crate::time::{self, Spread, Times};
 use std::path::Path;
+
+/// A number for each side.
+type Numbers = [f64; SIDES.len()];
 
 /// A row with what was measured.
 struct Line {
     row: Row,
     times: Times,
-    /// Instructions a call, of Rust and of Rattle.
-    instructions: Option<(f64, f64)>,
+    /// Instructions a call.
+    instructions: Option<Numbers>,
     /// Those of Rust where it is compiled as one piece.
     whole: Option<f64>,
 }
@@ -19,28 +23,40 @@ struct Line {
 impl Line {
     fn of(row: Row, whole: Option<&Path>) -> Line {
         let program = std::env::current_exe().expect("this program has a path");
-        let rust = count::instructions(&program, &row, "rust");
-        let rattle = count::instructions(&program, &row, "rattle");
+        let counts = SIDES.map(|side| count::instructions(&program, &row, side));
+        let known = counts.iter().all(Option::is_some);
         Line {
             times: time::of(&row),
-            instructions: rust.zip(rattle),
-            whole: whole.and_then(|whole| count::instructions(whole, &row, "rust")),
+            instructions: known.then(|| counts.map(|count| count.unwrap_or_default())),
+            whole: whole.and_then(|whole| count::instructions(whole, &row, SIDES[0])),
             row,
         }
     }
-}
 
-impl Line {
-    /// The columns of instructions.
-    fn counts(&self) -> [String; 5] {
-        let rust = self.instructions.map(|both| both.0);
-        let rattle = self.instructions.map(|both| both.1);
-        let ratio = |to: Option<f64>| {
-            let ratio = rattle.zip(to).map(|(rattle, to)| rattle / to);
-            ratio.map_or("-".into(), |ratio| format!("{ratio:.2}"))
-        };
-        let [a, b, c] = [rust, self.whole, rattle].map(|n| n.map_or("-".into(), short));
-        [a, b, c, ratio(rust), ratio(self.whole)]
+    /// The columns of instructions: Rust, Rust in one piece, then each board with its ratios to these.
+    fn counts(&self) -> Vec<String> {
+        let number = |number: Option<f64>| number.map_or("-".into(), short);
+        let rust = self.instructions.map(|sides| sides[0]);
+        let mut columns = vec![number(rust), number(self.whole)];
+        for side in 1..SIDES.len() {
+            let board = self.instructions.map(|sides| sides[side]);
+            let ratio = |to: Option<f64>| {
+                let ratio = board.zip(to).map(|(board, to)| board / to);
+                ratio.map_or("-".into(), |ratio| format!("{ratio:.2}"))
+            };
+            columns.extend([number(board), ratio(rust), ratio(self.whole)]);
+        }
+        columns
+    }
+
+    /// The columns of times: Rust, then each board with its ratio.
+    fn times(&self) -> Vec<String> {
+        let mut columns = vec![spread(&self.times.sides[0])];
+        for side in 1..SIDES.len() {
+            let of = [&self.times.sides[side], &self.times.ratios[side]];
+            columns.extend(of.map(spread));
+        }
+        columns
     }
 }
 
@@ -74,21 +90,52 @@ fn spread(spread: &Spread) -> String {
     )
 }
 
-fn print_lines<'a>(lines: impl Iterator<Item = &'a Line>) {
-    println!("| call | instructions: Rust | Rust, one piece | Rattle | ratio | ratio to one piece | ns: Rust | Rattle | ratio |");
-    println!("|---|---|---|---|---|---|---|---|---|");
+/// A table's title, its head and the line below it.
+fn print_head(title: &str, columns: &[&str]) {
+    println!("## {title}\n");
+    println!("| {} |", columns.join(" | "));
+    println!("|{}", "---|".repeat(columns.len()));
+}
+
+fn print_line(name: &str, columns: &[String]) {
+    println!("| {name} | {} |", columns.join(" | "));
+}
+
+fn print_lines(title: &str, lines: &[&Line]) {
+    let [rust, eight, four] = SIDES;
+    let counts = [
+        "call",
+        rust,
+        "rust, one piece",
+        eight,
+        "ratio",
+        "ratio to one piece",
+        four,
+        "ratio",
+        "ratio to one piece",
+    ];
+    print_head(&format!("{title}: instructions"), &counts);
     for line in lines {
-        let counts = line.counts().join(" | ");
-        let times = [&line.times.rust, &line.times.rattle, &line.times.ratio].map(spread);
-        println!("| {} | {counts} | {} |", line.row.name(), times.join(" | "));
+        print_line(&line.row.name(), &line.counts());
+    }
+    println!();
+    let times = ["call", rust, eight, "ratio", four, "ratio"];
+    print_head(&format!("{title}: nanoseconds"), &times);
+    for line in lines {
+        print_line(&line.row.name(), &line.times());
     }
     println!();
 }
 
+/// The head of a table with a column for each side.
+fn print_sides(title: &str, what: &str) {
+    let [rust, eight, four] = SIDES;
+    print_head(title, &[what, rust, eight, four]);
+}
+
 /// What one page more, or one byte of a page more, costs a restart, in instructions.
 fn print_growth(lines: &[Line]) {
-    println!("| restart | Rust | Rattle |");
-    println!("|---|---|---|");
+    print_sides("Growth of restart, in instructions", "restart");
     for (left, newest) in [(0, "full"), (16, "padded")] {
         let found = |p, n| {
             let is_it = |line: &&Line| {
@@ -98,14 +145,13 @@ fn print_growth(lines: &[Line]) {
             };
             lines.iter().find(is_it).and_then(|line| line.instructions)
         };
-        let print =
-            |what: String, from: Option<(f64, f64)>, to: Option<(f64, f64)>, steps: usize| {
-                if let (Some(from), Some(to)) = (from, to) {
-                    let steps = steps as f64;
-                    let (rust, rattle) = ((to.0 - from.0) / steps, (to.1 - from.1) / steps);
-                    println!("| {what}, newest page {newest} | {rust:.2} | {rattle:.2} |");
-                }
-            };
+        let print = |what: String, from: Option<Numbers>, to: Option<Numbers>, steps: usize| {
+            if let (Some(from), Some(to)) = (from, to) {
+                let growth = |side| format!("{:.2}", (to[side] - from[side]) / steps as f64);
+                let columns: Vec<String> = (0..SIDES.len()).map(growth).collect();
+                print_line(&format!("{what}, newest page {newest}"), &columns);
+            }
+        };
         for p in [512, 4096] {
             for (n, more) in [(64, 1024), (1024, 4096)] {
                 let what = format!("a page more, P = {p}, N from {n} to {more}");
@@ -121,11 +167,10 @@ fn print_growth(lines: &[Line]) {
 }
 
 fn print_stack() {
-    println!("| call | Rust | Rattle |");
-    println!("|---|---|---|");
-    for stack::Use { call, rust, rattle } in stack::table() {
-        let rust = rust.map_or("-".into(), |bytes| bytes.to_string());
-        println!("| {call} | {rust} | {rattle} |");
+    print_sides("Stack, in bytes", "call");
+    for stack::Use { call, sides } in stack::table() {
+        let columns = sides.map(|used| used.map_or("-".into(), |bytes| bytes.to_string()));
+        print_line(call, &columns);
     }
     println!();
 }
@@ -133,12 +178,9 @@ fn print_stack() {
 pub fn print(whole: Option<&Path>) {
     let lines = rows().into_iter().map(|row| Line::of(row, whole));
     let lines: Vec<Line> = lines.collect();
-    println!("## Calls\n");
-    print_lines(lines.iter().filter(|line| !line.row.is_part()));
-    println!("## Parts of them\n");
-    print_lines(lines.iter().filter(|line| line.row.is_part()));
-    println!("## Growth of restart, in instructions\n");
+    let (parts, calls): (Vec<&Line>, Vec<&Line>) = lines.iter().partition(|l| l.row.is_part());
+    print_lines("Calls", &calls);
+    print_lines("Parts of them", &parts);
     print_growth(&lines);
-    println!("## Stack, in bytes\n");
     print_stack();
 }

@@ -1,9 +1,9 @@
-//! Nanoseconds a call, of both sides in turn.
+//! Nanoseconds a call, of the sides in turn.
 
 use crate::original::Original;
 use crate::rattle::Rattle;
 use crate::row::Row;
-use crate::side::Side;
+use crate::side::{Side, SIDES};
 use std::time::{Duration, Instant};
 
 /// How often each side is timed.
@@ -32,10 +32,10 @@ impl Spread {
 }
 
 pub struct Times {
-    pub rust: Spread,
-    pub rattle: Spread,
-    /// Rattle to Rust, round by round.
-    pub ratio: Spread,
+    /// Of each side.
+    pub sides: [Spread; SIDES.len()],
+    /// Each side to the first, round by round.
+    pub ratios: [Spread; SIDES.len()],
 }
 
 fn timed<S: Side>(row: &Row, logs: &mut [S]) -> Duration {
@@ -48,43 +48,47 @@ fn timed<S: Side>(row: &Row, logs: &mut [S]) -> Duration {
     took
 }
 
-/// Nanoseconds a call over so many measurements.
-fn sample<S: Side>(row: &Row, logs: &mut [S], measurements: usize) -> f64 {
-    let took: Duration = (0..measurements).map(|_| timed(row, logs)).sum();
-    took.as_nanos() as f64 / (measurements * row.calls()) as f64
+/// Makes so many measurements, and says how long they took.
+type Timer<'a> = Box<dyn FnMut(usize) -> Duration + 'a>;
+
+fn timer<'a, S: Side + 'a>(row: &'a Row) -> Timer<'a> {
+    let mut logs = row.set_up::<S>();
+    Box::new(move |measurements| (0..measurements).map(|_| timed(row, &mut logs)).sum())
 }
 
-fn times<A: Side, B: Side>(row: &Row) -> Times {
-    let mut rust = row.set_up::<A>();
-    let mut rattle = row.set_up::<B>();
+fn times(row: &Row, mut sides: [Timer; SIDES.len()]) -> Times {
     let mut measurements = 0;
     let mut took = Duration::ZERO;
     while took < SAMPLE {
-        took += timed(row, &mut rust).min(timed(row, &mut rattle));
+        took += sides.iter_mut().map(|side| side(1)).min().expect("a side");
         measurements += 1;
     }
-    let mut both = Vec::new();
-    for round in 0..ROUNDS {
-        if round % 2 == 0 {
-            let a = sample(row, &mut rust, measurements);
-            both.push((a, sample(row, &mut rattle, measurements)));
-        } else {
-            let b = sample(row, &mut rattle, measurements);
-            both.push((sample(row, &mut rust, measurements), b));
+    let calls = (measurements * row.calls()) as f64;
+    let round = |first: usize| {
+        let mut took = [0.0; SIDES.len()];
+        for turn in 0..SIDES.len() {
+            let side = (first + turn) % SIDES.len();
+            took[side] = sides[side](measurements).as_nanos() as f64 / calls;
         }
-    }
-    let spread = |of: fn(&(f64, f64)) -> f64| Spread::of(both.iter().map(of).collect());
+        took
+    };
+    let rounds: Vec<[f64; SIDES.len()]> = (0..ROUNDS).map(round).collect();
+    let spread =
+        |of: &dyn Fn(&[f64; SIDES.len()]) -> f64| Spread::of(rounds.iter().map(of).collect());
     Times {
-        rust: spread(|round| round.0),
-        rattle: spread(|round| round.1),
-        ratio: spread(|round| round.1 / round.0),
+        sides: std::array::from_fn(|side| spread(&|round| round[side])),
+        ratios: std::array::from_fn(|side| spread(&|round| round[side] / round[0])),
     }
 }
 
 pub fn of(row: &Row) -> Times {
-    match row.page_size {
-        512 => times::<Original<512>, Rattle>(row),
-        4096 => times::<Original<4096>, Rattle>(row),
+    let rust = match row.page_size {
+        512 => timer::<Original<512>>(row),
+        4096 => timer::<Original<4096>>(row),
         _ => unreachable!("pages have 512 or 4,096 bytes"),
-    }
+    };
+    times(
+        row,
+        [rust, timer::<Rattle<u64>>(row), timer::<Rattle<u32>>(row)],
+    )
 }

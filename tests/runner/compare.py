@@ -5,6 +5,7 @@ from collections import Counter, namedtuple
 from .book import disagreement
 from .domain import Tracker, admits_restart, volume_bytes
 from .sides import Stopped
+from .sizes import Sizes
 from .trace import first_difference, parse
 
 # A script on which the sides differ: the line of the script (counted from 0), what each side wrote there, and how the program ended if not well.
@@ -38,12 +39,11 @@ def text_at(trace, at):
 
 def within_domain(oracle, lines):
     """Those of a script's lines that the domain allows, one after the other, and the oracle's trace of them; None for a volume outside it."""
-    _, page_size, count, first, _ = lines[0].split(" ")
-    page_size, count, first = int(page_size), int(count), int(first)
-    volume = volume_bytes(lines[1], page_size * count)
-    if not admits_restart(volume, page_size):
+    sizes = Sizes.parse(lines[0])
+    volume = volume_bytes(lines[1], sizes)
+    if not admits_restart(volume, sizes):
         return None
-    state = Tracker(page_size, count, first, volume)
+    state = Tracker(sizes, volume)
     kept, trace = lines[:3], oracle.ask("\n".join(lines[:3]) + "\n")
     state.update(lines[2], parse(trace[0]))
     for line in lines[3:]:
@@ -102,7 +102,7 @@ def plainer_lines(best, attempt):
     """Puts plainer lines in place of lines, one at a time."""
     at = 1
     while at < len(best.lines):
-        page_size = int(best.lines[0].split(" ")[1])
+        page_size = Sizes.parse(best.lines[0]).page_size
         for line in plainer(best.lines[at], page_size):
             found = line != best.lines[at] and attempt(best.lines[:at] + [line] + best.lines[at + 1:])
             if found and len(found.lines) <= len(best.lines):

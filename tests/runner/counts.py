@@ -3,6 +3,7 @@
 from collections import Counter
 
 from .flash import LEFT, Flash
+from .sizes import Sizes
 from .trace import parse
 
 RESULTS = {"0": "OK", "1": "FAIL", "2": "BUSY", "8": "CANCEL"}
@@ -50,9 +51,8 @@ class Counts:
     def take(self, lines, trace, kind):
         """A script: its lines from `sizes` on, with a line of trace for each from the third."""
         self.scripts[kind] += 1
-        words = lines[0].split(" ")
-        length = int(words[1]) * int(words[2])
-        flash = Flash(int(words[3]))
+        sizes = Sizes.parse(lines[0])
+        flash = Flash(sizes.first)
         lap = None
         for line, text in zip(lines[2:], trace):
             step = parse(text)
@@ -66,7 +66,7 @@ class Counts:
             self.answers[step.name, step.answer] += 1
             if step.report != "-":
                 self.reports[report_name(step.report)] += 1
-            now = step.A // length
+            now = step.A // sizes.length
             if step.name != "restart":
                 self.laps += max(0, now - lap)
             lap = now

@@ -5,7 +5,8 @@ import random
 from . import volumes
 from .book import applies, clear
 from .flash import LEFT
-from .lists import CALLS, Script, Writer, any_sizes, buffer
+from .lists import CALLS, Script, Writer, any_sizes, buffer, steps
+from .sizes import Sizes
 from .trace import OK, parse
 
 WITH_BOOK = 0.75  # of the lists
@@ -18,7 +19,7 @@ class CutWriter(Writer):
         self.with_book = with_book
         self.during = rng.choice([0.02, 0.1, 0.3])  # how often an operation is cut, or a restart falls in it
         self.between = rng.choice([0, 0.01, 0.05])  # the same where nothing is under way
-        super().__init__(rng, oracle, sizes, volume, buffer(rng, sizes[0]), buffer(rng, sizes[0]))
+        super().__init__(rng, oracle, sizes, volume, buffer(rng, sizes), buffer(rng, sizes))
 
     def step(self):
         if self.state.flash.off:
@@ -64,7 +65,7 @@ class CutWriter(Writer):
 
     def restart(self):
         """Where nothing is under way, what it leaves is often left out."""
-        line = f"restart 1 1 {buffer(self.rng, self.P)} {buffer(self.rng, self.P)}"
+        line = f"restart 1 1 {buffer(self.rng, self.sizes)} {buffer(self.rng, self.sizes)}"
         if not self.state.under_way and self.rng.random() < 0.5:
             return line
         return f"{line} {self.admitted_left()}"
@@ -109,30 +110,27 @@ class CutWriter(Writer):
         return parse(self.trace[-1])
 
 
-def sizes_for_cuts(rng):
+def sizes_for_cuts(rng, width):
     """Any, or often a small circular log, which goes round between the cuts."""
-    sizes = any_sizes(rng)
+    sizes = any_sizes(rng, width)
     if rng.random() < 0.3:
-        return rng.choice([16, 32, 64]), rng.randint(3, 6), sizes[2], "circular"
+        return Sizes(rng.choice([4, 8, 16]) * width, rng.randint(3, 6), sizes.first, "circular", width)
     return sizes
 
 
 def write_script(rng, oracle, sizes, kind, volume, with_book):
     writer = CutWriter(rng, oracle, sizes, volume, with_book)
-    for _ in range(rng.randint(10, 400 if sizes[0] <= 512 else 80)):
+    for _ in steps(rng, sizes):
         writer.step()
         if writer.lost():
             break
     return Script(*writer.end(), kind)
 
 
-def script(seed, oracle):
+def script(seed, oracle, width):
     """The script of a seed."""
     rng = random.Random(f"cuts:{seed}")
-    sizes = sizes_for_cuts(rng)
+    sizes = sizes_for_cuts(rng, width)
     with_book = rng.random() < WITH_BOOK
-    if with_book:
-        kind, volume = volumes.any_headless(rng, sizes[0], sizes[1])
-    else:
-        kind, volume = volumes.any_volume(rng, sizes[0], sizes[1])
+    kind, volume = (volumes.any_headless if with_book else volumes.any_volume)(rng, sizes)
     return write_script(rng, oracle, sizes, kind, volume, with_book)

@@ -6,55 +6,50 @@ leaves the volume, and whether the entry that a read would meet ends within its 
 
 from .flash import Ended, Flash, after, left_at_restart
 
-CEILING = 1879048192
-LENGTH_MOST = 2**32 - 5
 
-
-def word_at(data, at):
-    return int.from_bytes(data[at:at + 4], "little")
-
-
-def volume_bytes(line, length):
+def volume_bytes(line, sizes):
     """What a script's volume line says."""
     words = line.split(" ")
-    return bytes([int(words[2])]) * length if words[1] == "all" else bytes.fromhex(words[1])
+    return bytes([int(words[2])]) * sizes.length if words[1] == "all" else bytes.fromhex(words[1])
 
 
-def has_header(volume, page_size):
+def has_header(volume, sizes):
     """Whether a slot has a page header that is valid, or would be below the ceiling."""
-    return any(word_at(volume, start) % len(volume) == start for start in range(0, len(volume), page_size))
+    return any(sizes.word_at(volume, start) % sizes.length == start for start in range(0, sizes.length, sizes.page_size))
 
 
-def admits_restart(volume, page_size):
+def admits_restart(volume, sizes):
     """Whether restart's walk neither wraps nor leaves the volume, and no page ID reaches the ceiling."""
+    page_size, width = sizes.page_size, sizes.width
     newest = None
-    for start in range(0, len(volume), page_size):
-        page_id = word_at(volume, start)
-        if page_id % len(volume) == start:
-            if page_id >= CEILING:
+    for start in range(0, sizes.length, page_size):
+        page_id = sizes.word_at(volume, start)
+        if page_id % sizes.length == start:
+            if page_id >= sizes.ceiling:
                 return False
             newest = max(newest or 0, page_id)
     if newest is None:
         return True
-    start, at = newest % len(volume), 4
+    start, at = newest % sizes.length, width
     while at < page_size and volume[start + at] not in (0, 255):
-        end = at + 4 + word_at(volume, start + at)
-        if start + at + 4 > len(volume) or end >= 2**32:
+        end = at + width + sizes.word_at(volume, start + at)
+        if start + at + width > sizes.length or end >= sizes.wrap:
             return False
         if end > page_size:
             break
         at = end
-    return at < page_size or newest + page_size < CEILING
+    return at < page_size or newest + page_size < sizes.ceiling
 
 
 class Tracker:
     """What is due after the calls made so far."""
 
-    def __init__(self, page_size, count, first, volume):
-        self.page_size = page_size
+    def __init__(self, sizes, volume):
+        self.sizes = sizes
+        self.page_size = sizes.page_size
         self.volume = bytes(volume)
-        assert len(self.volume) == page_size * count
-        self.flash = Flash(first)
+        assert len(self.volume) == sizes.length
+        self.flash = Flash(sizes.first)
         self.deferred = False  # a deferred call is due
         self.erasing = False  # from an erase's request to its report; where the driver refused, with nothing under way
         self.handed_out = {}  # the IDs since the last restart or finished erase, as keys, in their order
@@ -91,26 +86,26 @@ class Tracker:
         if not self.flash.may_leave(left):
             return False
         volume = self.volume_after(Ended(*self.under_way, left)) if self.under_way else self.volume
-        return admits_restart(volume, self.page_size)
+        return admits_restart(volume, self.sizes)
 
     def allows_cut(self, words):
         return self.flash.may_leave(words[0])
 
     def allows_append(self, words):
         length = int(words[0])
-        if length > LENGTH_MOST:
+        if length > self.sizes.length_most:
             return False
         if not self.idle():
             return True
         offset = self.A % self.page_size
-        fits = offset != 0 and length + 4 <= self.page_size - offset
-        return fits or self.A + -self.A % self.page_size < CEILING
+        fits = offset != 0 and length + self.sizes.width <= self.page_size - offset
+        return fits or self.A + -self.A % self.page_size < self.sizes.ceiling
 
     def allows_sync(self, words):
-        return self.A < CEILING
+        return self.A < self.sizes.ceiling
 
     def allows_read(self, words):
-        return int(words[0]) <= LENGTH_MOST and (not self.idle() or self.read_stays_in_page())
+        return int(words[0]) <= self.sizes.length_most and (not self.idle() or self.read_stays_in_page())
 
     def allows_seek(self, words):
         return self.idle() and int(words[0]) in self.handed_out
@@ -137,16 +132,16 @@ class Tracker:
 
     def next_entry(self):
         """Where the next read looks for an entry, and the length it finds there; None at the log's end, and for the length where its word doesn't lie in the page."""
-        at = self.R
+        at, width = self.R, self.sizes.width
         if at % self.page_size == 0:
-            at += 4
+            at += width
         elif self.byte(at) == 255:
-            at += self.page_size - at % self.page_size + 4
+            at += self.page_size - at % self.page_size + width
         if at >= self.A:
             return None, None
-        if at % self.page_size + 4 > self.page_size:
+        if at % self.page_size + width > self.page_size:
             return at, None
-        return at, sum(self.byte(at + i) << 8 * i for i in range(4))
+        return at, sum(self.byte(at + i) << 8 * i for i in range(width))
 
     def read_stays_in_page(self):
         at, length = self.next_entry()
@@ -154,8 +149,8 @@ class Tracker:
             return True
         if length is None:
             return False
-        refused = length == 0 or length > self.page_size - 8
-        return refused or at % self.page_size + 4 + length <= self.page_size
+        refused = length == 0 or length > self.sizes.data_most
+        return refused or at % self.page_size + self.sizes.width + length <= self.page_size
 
     def update(self, line, step):
         """Takes in a line and its trace (None: no call was delivered)."""

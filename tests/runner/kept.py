@@ -5,9 +5,19 @@
     # the Rust: reads on ..         the same in words
 """
 
+import pathlib
+import sys
+
 from .trace import parse
 
+TESTS = pathlib.Path(__file__).resolve().parents[1]
 FIELDS = ("answer", "report", "request", "state", "O", "R", "A", "kept", "page", "hold", "buffer")
+
+
+def scripts_in(folder, width):
+    """The scripts of a folder with words of that width: those of 8 bytes are in a folder of their own."""
+    path = TESTS / (folder if width == 4 else f"{folder}{width}")
+    return sorted(path.glob("*.script")) or sys.exit(f"no scripts in {path}")
 
 
 class Kept:

@@ -4,14 +4,15 @@ import random
 from collections import namedtuple
 
 from . import volumes
-from .domain import LENGTH_MOST, Tracker
+from .domain import Tracker
 from .sides import Stopped
+from .sizes import Sizes
 from .trace import parse
 
 # One script: its lines, the oracle's trace, and what its volume was like.
 Script = namedtuple("Script", "lines trace kind")
 
-# Page sizes with their weights: a large page makes long lines.
+# Page sizes with their weights: a large page makes long lines. A page has room for four words at least.
 PAGE_SIZES = {16: 270, 32: 250, 64: 180, 128: 110, 256: 75, 512: 55, 1024: 30, 2048: 20, 4096: 10}
 
 # Weights of calls when the log is idle, each list of calls with one row of them.
@@ -28,15 +29,15 @@ class Writer:
     """Writes one script while the oracle runs it."""
 
     def __init__(self, rng, oracle, sizes, volume, page, hold):
-        page_size, count, first, mode = sizes
         self.rng = rng
         self.oracle = oracle
-        self.P, self.L, self.mode = page_size, page_size * count, mode
-        self.state = Tracker(page_size, count, first, volume)
+        self.sizes = sizes
+        self.P = sizes.page_size
+        self.state = Tracker(sizes, volume)
         self.habit = rng.choice(HABITS)
         self.refusals = rng.choice([0, 0.05, 0.3])  # how often the driver refuses
         self.failures = rng.choice([0, 0.1, 0.4])  # how often an operation fails
-        self.lines = [f"sizes {page_size} {count} {first} {mode}", volume_line(volume), f"restart 1 1 {page} {hold}"]
+        self.lines = [sizes.line(), volume_line(volume), f"restart 1 1 {page} {hold}"]
         self.trace = []
         self.send("\n".join(self.lines), self.lines[2])
 
@@ -93,18 +94,25 @@ class Writer:
         length = self.append_length()
         room = self.rng.choices([0, 1, 5, -1], [40, 4, 2, 1])[0]
         size = min(max(length + room, 0), 2 * self.P)
-        return f"append {length} {hex_of(volumes.data(self.rng, size))} {self.word()}"
+        return f"append {length} {hex_of(volumes.data(self.rng, self.sizes, size))} {self.word()}"
 
     def append_length(self):
         """Mostly what is allowed; often a limit or one beside it."""
-        rng, page = self.rng, self.P
+        rng, sizes, append = self.rng, self.sizes, self.state.A
         if rng.random() < 0.5:
-            return rng.randint(1, rng.choice([4, page - 8, page - 8]))
-        left = page - self.state.A % page - 4  # fills the page
-        if self.mode == "plain" and rng.random() < 0.3:
-            left = self.L - self.state.A - 4  # fills the volume
-        limit = rng.choices([left, page - 8, 1, 255, 256, page, LENGTH_MOST], [20, 15, 4, 2, 2, 1, 1])[0]
-        return min(max(limit + rng.choice([0, 0, 0, -1, 1]), 0), LENGTH_MOST)
+            return rng.randint(1, rng.choice([4, sizes.data_most, sizes.data_most]))
+        left = self.P - append % self.P - sizes.width  # fills the page
+        if sizes.mode == "plain" and rng.random() < 0.3:
+            left = sizes.length - append - sizes.width  # fills the volume
+        limit = self.any_length([left, sizes.data_most, 1, 255, 256, self.P, sizes.length_most], [20, 15, 4, 2, 2, 1, 1])
+        return self.beside(limit, [0, 0, 0, -1, 1])
+
+    def any_length(self, lengths, weights):
+        beyond = self.sizes.beyond_32_bits()
+        return self.rng.choices(lengths + beyond, weights + [1] * len(beyond))[0]
+
+    def beside(self, length, steps):
+        return min(max(length + self.rng.choice(steps), 0), self.sizes.length_most)
 
     def read(self):
         """Mostly a whole page of room; else about as much as the entry needs."""
@@ -113,8 +121,8 @@ class Writer:
         if rng.random() < 0.4:
             found = self.state.next_entry()[1] if self.state.idle() else None
             found = found if found and found <= self.P else 1
-            length = rng.choices([found, 0, rng.randint(0, self.P), LENGTH_MOST], [12, 1, 4, 1])[0]
-            length = min(max(length + rng.choice([0, 0, -1, 1]), 0), LENGTH_MOST)
+            length = self.any_length([found, 0, rng.randint(0, self.P), self.sizes.length_most], [12, 1, 4, 1])
+            length = self.beside(length, [0, 0, -1, 1])
             room = min(max(length + rng.choices([0, 3, -1], [20, 10, 1])[0], 0), 2 * self.P)
         return f"read {length} {hex_of(rng.choice([bytes(room), rng.randbytes(room)]))}"
 
@@ -146,22 +154,27 @@ def volume_line(volume):
     return "volume " + hex_of(volume)
 
 
-def any_sizes(rng):
-    page_size = rng.choices(list(PAGE_SIZES), PAGE_SIZES.values())[0]
+def any_sizes(rng, width):
+    page_sizes = {size: weight for size, weight in PAGE_SIZES.items() if size >= 4 * width}
+    page_size = rng.choices(list(page_sizes), page_sizes.values())[0]
     most = min(64, 65536 // page_size)
     count = rng.choice([1, 2, 3, 4, rng.randint(1, 8), rng.randint(1, most), most])
     first = rng.choice([0, 1, 100, 16777215, rng.randint(0, 16777215)])
-    return page_size, min(count, most), first, rng.choice(["circular", "circular", "plain"])
+    return Sizes(page_size, min(count, most), first, rng.choice(["circular", "circular", "plain"]), width)
 
 
-def buffer(rng, page_size):
+def buffer(rng, sizes):
     """A buffer for restart: as it is, or noise."""
-    return rng.choice(["=", rng.randbytes(page_size).hex()])
+    return rng.choice(["=", rng.randbytes(sizes.page_size).hex()])
+
+
+def steps(rng, sizes):
+    return range(rng.randint(10, 400 if sizes.page_size <= 512 else 80))
 
 
 def write_script(rng, oracle, sizes, kind, volume):
-    writer = Writer(rng, oracle, sizes, volume, buffer(rng, sizes[0]), buffer(rng, sizes[0]))
-    for _ in range(rng.randint(10, 400 if sizes[0] <= 512 else 80)):
+    writer = Writer(rng, oracle, sizes, volume, buffer(rng, sizes), buffer(rng, sizes))
+    for _ in steps(rng, sizes):
         writer.step()
         if writer.state.stuck() and rng.random() < 0.1:
             break
@@ -169,12 +182,12 @@ def write_script(rng, oracle, sizes, kind, volume):
     return Script(lines, trace, kind), bytes(writer.state.volume)
 
 
-def scripts(seed, oracle):
+def scripts(seed, oracle, width):
     """The scripts of a seed: one, and often a second on the volume that the first left."""
     rng = random.Random(seed)
-    sizes = any_sizes(rng)
-    kind, volume = volumes.any_volume(rng, sizes[0], sizes[1])
+    sizes = any_sizes(rng, width)
+    kind, volume = volumes.any_volume(rng, sizes)
     script, left = write_script(rng, oracle, sizes, kind, volume)
     yield script
-    if rng.random() < 0.3 and volumes.admits_restart(left, sizes[0]):
+    if rng.random() < 0.3 and volumes.admits_restart(left, sizes):
         yield write_script(rng, oracle, sizes, "left", left)[0]

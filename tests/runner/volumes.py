@@ -1,78 +1,77 @@
 """Volumes to restart on, from a seed: fresh, all zero, partly filled, wrapped, high (IDs near the ceiling), damaged within the domain; and headless: without a valid page header."""
 
-from .domain import CEILING, admits_restart, has_header
+from .domain import admits_restart, has_header
 
 KINDS = ["fresh", "zero", "filled", "wrapped", "high", "damaged"]
 WEIGHTS = [22, 4, 18, 20, 8, 28]
 
 
-def any_volume(rng, page_size, count):
+def any_volume(rng, sizes):
     """A kind, and a volume of it within the domain."""
     kind = rng.choices(KINDS, WEIGHTS)[0]
     while True:
-        volume = MAKERS[kind](rng, page_size, count)
-        if admits_restart(volume, page_size):
+        volume = MAKERS[kind](rng, sizes)
+        if admits_restart(volume, sizes):
             return kind, bytes(volume)
 
 
-def any_headless(rng, page_size, count):
+def any_headless(rng, sizes):
     """A kind, and a volume of it without a valid page header."""
     if rng.random() < 0.5:
-        return "fresh", fresh(rng, page_size, count)
+        return "fresh", fresh(rng, sizes)
     while True:
-        volume = b"".join(rng.choice(HEADLESS)(rng, page_size, count, slot) for slot in range(count))
-        if not has_header(volume, page_size):
+        volume = b"".join(rng.choice(HEADLESS)(rng, sizes, slot) for slot in range(sizes.count))
+        if not has_header(volume, sizes):
             return "headless", volume
 
 
-def fresh(rng, page_size, count):
-    return b"\xff" * page_size * count
+def fresh(rng, sizes):
+    return b"\xff" * sizes.length
 
 
-def zero(rng, page_size, count):
-    return bytes(page_size * count)
+def zero(rng, sizes):
+    return bytes(sizes.length)
 
 
-def filled(rng, page_size, count):
+def filled(rng, sizes):
     """The first pages of a log that has not gone round yet."""
-    return lap(rng, page_size, count, 0, rng.randint(1, count))
+    return lap(rng, sizes, 0, rng.randint(1, sizes.count))
 
 
-def wrapped(rng, page_size, count):
+def wrapped(rng, sizes):
     """Every slot filled, the oldest page anywhere."""
-    return lap(rng, page_size, count, rng.randint(1, 4 * count), count)
+    return lap(rng, sizes, rng.randint(1, 4 * sizes.count), sizes.count)
 
 
-def high(rng, page_size, count):
+def high(rng, sizes):
     """The newest page a few pages below the ceiling."""
-    newest = CEILING // page_size - rng.randint(1, 2 * count + 2)
-    pages = rng.randint(1, count)
-    return lap(rng, page_size, count, newest - pages + 1, pages)
+    newest = sizes.ceiling // sizes.page_size - rng.randint(1, 2 * sizes.count + 2)
+    pages = rng.randint(1, sizes.count)
+    return lap(rng, sizes, newest - pages + 1, pages)
 
 
-def lap(rng, page_size, count, oldest, pages):
+def lap(rng, sizes, oldest, pages):
     """`pages` pages from number `oldest` on, each in its slot; the other slots blank."""
-    volume = bytearray(fresh(rng, page_size, count))
+    volume = bytearray(fresh(rng, sizes))
     for number in range(oldest, oldest + pages):
-        start = number % count * page_size
-        volume[start:start + page_size] = page(rng, page_size, number * page_size)
+        start = number % sizes.count * sizes.page_size
+        volume[start:start + sizes.page_size] = page(rng, sizes, number * sizes.page_size)
     return volume
 
 
-def page(rng, page_size, first_id):
+def page(rng, sizes, first_id):
     """A page with entries of random lengths, full or padded."""
-    content = first_id.to_bytes(4, "little")
+    content = sizes.word(first_id)
     stop_early = rng.random() < 0.5
-    while len(content) + 4 < page_size:
-        fits = page_size - len(content) - 4
+    while (fits := sizes.page_size - len(content) - sizes.width) > 0:
         if stop_early and rng.random() < 0.3:
             break
         length = rng.choice([fits, rng.randint(1, fits), rng.randint(1, min(fits, 8))] + [255, 256] * (fits >= 256))
-        content += length.to_bytes(4, "little") + data(rng, length)
-    return content + b"\xff" * (page_size - len(content))
+        content += sizes.word(length) + data(rng, sizes, length)
+    return content + b"\xff" * (sizes.page_size - len(content))
 
 
-def data(rng, length):
+def data(rng, sizes, length):
     """Bytes of an entry; some look like padding, zeros or length words."""
     how = rng.random()
     if how < 0.5:
@@ -81,76 +80,81 @@ def data(rng, length):
         return b"\xff" * length
     if how < 0.75:
         return bytes(length)
-    words = b"".join(rng.randint(0, 12).to_bytes(4, "little") for _ in range(length // 4 + 1))
+    words = b"".join(sizes.word(rng.randint(0, 12)) for _ in range(length // sizes.width + 1))
     return words[:length]
 
 
-def damaged(rng, page_size, count):
+def damaged(rng, sizes):
     """A volume with a few spots spoilt."""
     make = rng.choice([fresh, zero, filled, wrapped, wrapped, high])
-    volume = bytearray(make(rng, page_size, count))
+    volume = bytearray(make(rng, sizes))
     for _ in range(rng.choice([1, 1, 1, 2, 3, 5])):
-        slot = rng.randrange(count)
-        rng.choice(DAMAGES)(rng, volume, page_size, slot)
+        start = rng.randrange(sizes.count) * sizes.page_size
+        rng.choice(DAMAGES)(rng, volume, sizes, start)
     return volume
 
 
-def spoil_header(rng, volume, page_size, slot):
+def spoil_header(rng, volume, sizes, start):
     """Another ID, most of them valid in the slot and some far ahead."""
-    laps = rng.choice([0, 1, 2, rng.randint(0, 1 << 16), rng.randint(0, 1 << 30)])
-    new = (laps * len(volume) + slot * page_size + rng.choice([0, 0, 0, 1, 4, page_size])) % CEILING
-    volume[slot * page_size:slot * page_size + 4] = new.to_bytes(4, "little")
+    laps = rng.choice([0, 1, 2, rng.randint(0, 1 << 16), rng.randint(0, sizes.wrap >> 2)])
+    new = (laps * sizes.length + start + rng.choice([0, 0, 0, 1, sizes.width, sizes.page_size])) % sizes.ceiling
+    volume[start:start + sizes.width] = sizes.word(new)
 
 
-def spoil_length(rng, volume, page_size, slot):
+def spoil_length(rng, volume, sizes, start):
     """Another word somewhere in the page, such as an entry's length might be."""
-    at = slot * page_size + rng.choice([4, 4, rng.randint(4, page_size - 4)])
-    length = rng.choice([0, 1, 2, 3, page_size - 8, page_size - 7, page_size, 255, 256, 0xFFFFFFFF, rng.randint(1, page_size)])
-    volume[at:at + 4] = length.to_bytes(4, "little")
+    width, page_size, most = sizes.width, sizes.page_size, sizes.data_most
+    at = start + rng.choice([width, width, rng.randint(width, page_size - width)])
+    any_length = rng.randint(1, page_size)
+    beyond = [number + any_length for number in sizes.beyond_32_bits()]
+    length = rng.choice([0, 1, 2, 3, most, most + 1, page_size, 255, 256, sizes.wrap - 1, any_length] + beyond)
+    volume[at:at + width] = sizes.word(length)
 
 
-def spoil_byte(rng, volume, page_size, slot):
-    volume[slot * page_size + rng.randrange(page_size)] = rng.choice([0, 1, 255, rng.randrange(256)])
+def spoil_byte(rng, volume, sizes, start):
+    volume[start + rng.randrange(sizes.page_size)] = rng.choice([0, 1, 255, rng.randrange(256)])
 
 
-def spoil_tail(rng, volume, page_size, slot):
+def spoil_tail(rng, volume, sizes, start):
     """The page's end: blank, zero or noise from some offset on."""
-    at = rng.randrange(page_size)
-    tail = page_size - at
-    volume[slot * page_size + at:(slot + 1) * page_size] = rng.choice([b"\xff" * tail, bytes(tail), rng.randbytes(tail)])
+    at = rng.randrange(sizes.page_size)
+    tail = sizes.page_size - at
+    volume[start + at:start + sizes.page_size] = rng.choice([b"\xff" * tail, bytes(tail), rng.randbytes(tail)])
 
 
-def spoil_copy(rng, volume, page_size, slot):
+def spoil_copy(rng, volume, sizes, start):
     """Another slot's page in this one."""
-    other = rng.randrange(len(volume) // page_size)
-    volume[slot * page_size:(slot + 1) * page_size] = volume[other * page_size:(other + 1) * page_size]
+    other = rng.randrange(sizes.count) * sizes.page_size
+    volume[start:start + sizes.page_size] = volume[other:other + sizes.page_size]
 
 
-def spoil_end(rng, volume, page_size, slot):
-    """One entry that leaves 1 to 3 bytes, and noise there: a length word doesn't lie in the page."""
-    left = rng.randint(1, 3)
-    length = page_size - 8 - left
-    page_end = length.to_bytes(4, "little") + data(rng, length) + rng.randbytes(left)
-    volume[slot * page_size + 4:(slot + 1) * page_size] = page_end
+def spoil_end(rng, volume, sizes, start):
+    """One entry that leaves less than a word, and noise there: a length word doesn't lie in the page."""
+    left = rng.randint(1, sizes.width - 1)
+    length = sizes.data_most - left
+    page_end = sizes.word(length) + data(rng, sizes, length) + rng.randbytes(left)
+    volume[start + sizes.width:start + sizes.page_size] = page_end
 
 
-def blank_slot(rng, page_size, count, slot):
-    return b"\xff" * page_size
+def blank_slot(rng, sizes, slot):
+    return b"\xff" * sizes.page_size
 
 
-def zero_slot(rng, page_size, count, slot):
+def zero_slot(rng, sizes, slot):
     """A valid page 0 in slot 0."""
-    return bytes(page_size)
+    return bytes(sizes.page_size)
 
 
-def noise_slot(rng, page_size, count, slot):
-    return rng.randbytes(page_size)
+def noise_slot(rng, sizes, slot):
+    return rng.randbytes(sizes.page_size)
 
 
-def misplaced_slot(rng, page_size, count, slot):
+def misplaced_slot(rng, sizes, slot):
     """A page that another slot, or none, would hold."""
-    wrong = rng.choice([rng.randint(0, 4 * count) * page_size, slot * page_size + rng.choice([1, 4, page_size // 2]), CEILING])
-    return page(rng, page_size, wrong)
+    page_size = sizes.page_size
+    elsewhere = rng.randint(0, 4 * sizes.count) * page_size
+    beside = slot * page_size + rng.choice([1, sizes.width, page_size // 2])
+    return page(rng, sizes, rng.choice([elsewhere, beside, sizes.ceiling]))
 
 
 HEADLESS = [blank_slot, zero_slot, noise_slot, misplaced_slot]

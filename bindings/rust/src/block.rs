@@ -1,36 +1,24 @@
-//! The block: 44 bytes with the log and what the last call gave. punelovash.h has the layout.
+//! What stands in a block: the log and what the last call gave.
 
 use crate::numbers::{Answer, Outcome, PageNumber, Report, Request};
+use crate::word::{At, Word};
 
-/// The bytes of a block.
-pub const BLOCK_SIZE: usize = 44;
-
-pub(crate) const STATE: usize = 15;
-pub(crate) const KEPT: usize = 28;
-const REPORT: usize = 32;
-const REPORT_LOST: usize = 33;
-const REPORT_RESULT: usize = 34;
-const REQUEST: usize = 35;
-const REPORT_LENGTH: usize = 36;
-const REQUEST_PAGE: usize = 40;
-
-pub(crate) type Block = [u8; BLOCK_SIZE];
-
-pub(crate) fn word_at(block: &Block, at: usize) -> u32 {
-    let mut word = 0;
+/// A number of 4 bytes.
+pub(crate) fn number_at(block: &[u8], at: usize) -> u32 {
+    let mut number = 0;
     for (i, byte) in block.iter().skip(at).take(4).enumerate() {
-        word |= u32::from(*byte) << (8 * i);
+        number |= u32::from(*byte) << (8 * i);
     }
-    word
+    number
 }
 
-fn report_in(block: &Block) -> Report {
-    let result = Answer::of(u32::from(block[REPORT_RESULT]));
-    let length = word_at(block, REPORT_LENGTH) as usize;
-    match block[REPORT] {
+fn report_in<W: Word>(block: &[u8]) -> Report {
+    let result = Answer::of(u32::from(block[At::<W>::REPORT_RESULT]));
+    let length = number_at(block, At::<W>::REPORT_LENGTH) as usize;
+    match block[At::<W>::REPORT] {
         1 => Report::AppendDone {
             length,
-            lost: block[REPORT_LOST] != 0,
+            lost: block[At::<W>::REPORT_LOST] != 0,
             result,
         },
         2 => Report::SyncDone(result),
@@ -41,9 +29,9 @@ fn report_in(block: &Block) -> Report {
     }
 }
 
-fn request_in(block: &Block) -> Request {
-    let page = PageNumber(word_at(block, REQUEST_PAGE));
-    match block[REQUEST] {
+fn request_in<W: Word>(block: &[u8]) -> Request {
+    let page = PageNumber(number_at(block, At::<W>::REQUEST_PAGE));
+    match block[At::<W>::REQUEST] {
         1 => Request::Write(page),
         2 => Request::Erase(page),
         _ => Request::Nothing,
@@ -51,8 +39,9 @@ fn request_in(block: &Block) -> Request {
 }
 
 /// What a call gave: its answer, and what stands in the block. After SHAPE and STATE that may be an earlier call's.
-pub(crate) fn outcome(block: &Block, number: u32) -> Outcome {
+pub(crate) fn outcome<W: Word>(block: &W::Block, number: u32) -> Outcome {
     let answer = Answer::of(number);
+    let block = block.as_ref();
     match answer {
         Answer::Shape | Answer::State => Outcome {
             answer,
@@ -61,8 +50,8 @@ pub(crate) fn outcome(block: &Block, number: u32) -> Outcome {
         },
         _ => Outcome {
             answer,
-            report: report_in(block),
-            request: request_in(block),
+            report: report_in::<W>(block),
+            request: request_in::<W>(block),
         },
     }
 }

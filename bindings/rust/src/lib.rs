@@ -1,15 +1,18 @@
-//! A log on flash memory, proved: a safe wrapper of libcapi.a.
+//! A log on flash memory, proved: a safe wrapper of libpunelovash.a and libpunelovash8.a.
 //!
 //! The log is defined by "document 01"; `punelovash.h` says of each call what it answers and leaves. In short: a [`Log`] owns
 //! its state and has a page and a hold buffer of one flash page each. The volume, the log's flash as memory, is lent to each
 //! call that looks at it, and only the flash driver writes it. Each call gives an [`Outcome`]: an answer, at most one [`Report`]
 //! and at most one [`Request`] to the flash.
 //!
+//! There are two boards. [`Log4`] is a log with 4-byte words, [`Log8`] one with 8-byte words: `Log<B, u32>` and `Log<B, u64>`.
+//! They have the same calls; [`Word`] says how they differ, and stands for either in code for both.
+//!
 //! ```
-//! use punelovash::{Answer, DriverWord, Geometry, Log, LogRead, LogWrite, Mode, Report, Request};
+//! use punelovash::{Answer, DriverWord, Geometry, Log8, LogRead, LogWrite, Mode, Report, Request};
 //!
 //! let mut volume = [0xFF; 4 * 64];
-//! let mut log = Log::new([0; 64], [0; 64]);
+//! let mut log = Log8::new([0; 64], [0; 64]); // or Log4
 //! let sizes = Geometry { page_size: 64, page_count: 4, first_page: 0 };
 //! assert_eq!(log.restart(sizes, Mode::default(), &volume).answer, Answer::Ok);
 //!
@@ -47,8 +50,15 @@ mod ffi;
 mod log;
 mod numbers;
 mod survey;
+mod word;
 
-pub use block::BLOCK_SIZE;
-pub use log::{Geometry, Log, LogRead, LogWrite, Mode};
+pub use log::{Geometry, Log, Log4, Log8, LogRead, LogWrite, Mode};
 pub use numbers::{Answer, DriverWord, EntryID, Outcome, PageNumber, Report, Request, State};
 pub use survey::survey;
+pub use word::Word;
+
+/// The archives' functions and the places in a block, for code that does without the wrapper.
+pub mod raw {
+    pub use crate::ffi::Library;
+    pub use crate::word::At;
+}

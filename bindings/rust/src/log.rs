@@ -1,13 +1,13 @@
 //! The log and its calls.
 
-use crate::block::{self, Block, BLOCK_SIZE};
-use crate::ffi;
+use crate::block;
 use crate::numbers::{DriverWord, EntryID, Outcome, Request, State};
+use crate::word::{At, Word};
 
 /// The sizes of a log. A restart with others is refused as SHAPE.
 #[derive(Clone, Copy, Debug, PartialEq, Eq, Hash)]
 pub struct Geometry {
-    /// Bytes of a page: a power of two from 16 to 4,096.
+    /// Bytes of a page: a power of two from 4w (16 or 32) to 4,096.
     pub page_size: u32,
     /// Pages of the volume: 1 to 4,096.
     pub page_count: u32,
@@ -70,38 +70,40 @@ pub trait LogWrite {
     fn erase(&mut self, word: DriverWord) -> Outcome;
 }
 
-/// A log: its block, and its page and hold buffer, owned or borrowed (`[u8; P]`, `&mut [u8]` ..). Each has the length of a page;
-/// else every call that looks at it is refused as SHAPE. `seek`, `erase` and the deferred call look at neither, `read` not at
-/// the hold buffer.
+/// A log with words `W`: its block, and its page and hold buffer, owned or borrowed (`[u8; P]`, `&mut [u8]` ..). Each buffer has
+/// the length of a page; else every call that looks at it is refused as SHAPE. `seek`, `erase` and the deferred call look at
+/// neither, `read` not at the hold buffer.
 #[derive(Clone, Debug)]
-pub struct Log<B> {
-    block: Block,
+pub struct Log<B, W: Word> {
+    block: W::Block,
     page: B,
     hold: B,
 }
 
-impl<B: AsRef<[u8]> + AsMut<[u8]>> Log<B> {
+/// A log on the board with 4-byte words.
+pub type Log4<B> = Log<B, u32>;
+
+/// A log on the board with 8-byte words.
+pub type Log8<B> = Log<B, u64>;
+
+impl<B: AsRef<[u8]> + AsMut<[u8]>, W: Word> Log<B, W> {
     /// Buffers for a log. Before a restart every call is refused as SHAPE.
-    pub fn new(page: B, hold: B) -> Log<B> {
-        Log {
-            block: [0; BLOCK_SIZE],
-            page,
-            hold,
-        }
+    pub fn new(page: B, hold: B) -> Self {
+        Self::from_parts(W::ZEROS, page, hold)
     }
 
     /// A log from its parts, of whatever bytes.
-    pub fn from_parts(block: [u8; BLOCK_SIZE], page: B, hold: B) -> Log<B> {
+    pub fn from_parts(block: W::Block, page: B, hold: B) -> Self {
         Log { block, page, hold }
     }
 
     /// The block, the page and the hold buffer.
-    pub fn into_parts(self) -> ([u8; BLOCK_SIZE], B, B) {
+    pub fn into_parts(self) -> (W::Block, B, B) {
         (self.block, self.page, self.hold)
     }
 
     /// The block's bytes.
-    pub fn block(&self) -> &[u8; BLOCK_SIZE] {
+    pub fn block(&self) -> &W::Block {
         &self.block
     }
 
@@ -117,23 +119,24 @@ impl<B: AsRef<[u8]> + AsMut<[u8]>> Log<B> {
 
     /// What the log is doing; `None` where its number is no state's.
     pub fn state(&self) -> Option<State> {
-        State::of(self.block[block::STATE])
+        State::of(self.block.as_ref()[At::<W>::STATE])
     }
 
     /// The kept length: that of the entry under way, or last read or appended.
     pub fn kept_length(&self) -> usize {
-        block::word_at(&self.block, block::KEPT) as usize
+        block::number_at(self.block.as_ref(), At::<W>::KEPT) as usize
     }
 
     /// Finds what the volume holds. The first call, and the call after a power cut. Refused as SHAPE, all is as before.
     pub fn restart(&mut self, sizes: Geometry, mode: Mode, volume: &[u8]) -> Outcome {
+        let block = self.block.as_mut();
         let page = self.page.as_mut();
         let hold = self.hold.as_ref();
         // SAFETY: each pointer and length is of a slice that lives through the call; the mutable ones are borrowed as such.
         let number = unsafe {
-            ffi::punelovash_restart(
-                self.block.as_mut_ptr(),
-                self.block.len(),
+            W::restart(
+                block.as_mut_ptr(),
+                block.len(),
                 sizes.page_size,
                 sizes.page_count,
                 sizes.first_page,
@@ -148,18 +151,19 @@ impl<B: AsRef<[u8]> + AsMut<[u8]>> Log<B> {
                 hold.len(),
             )
         };
-        block::outcome(&self.block, number)
+        self.outcome(number)
     }
 
     /// The write that was requested has ended, well or not.
     pub fn write_complete(&mut self, volume: &[u8], good: bool) -> Outcome {
+        let block = self.block.as_mut();
         let page = self.page.as_mut();
         let hold = self.hold.as_ref();
         // SAFETY: as in `restart`.
         let number = unsafe {
-            ffi::punelovash_write_complete(
-                self.block.as_mut_ptr(),
-                self.block.len(),
+            W::write_complete(
+                block.as_mut_ptr(),
+                block.len(),
                 volume.as_ptr(),
                 volume.len(),
                 page.as_mut_ptr(),
@@ -169,18 +173,19 @@ impl<B: AsRef<[u8]> + AsMut<[u8]>> Log<B> {
                 good.into(),
             )
         };
-        block::outcome(&self.block, number)
+        self.outcome(number)
     }
 
     /// The erase that was requested has ended, well or not. `word` is for the next one.
     pub fn erase_complete(&mut self, volume: &[u8], good: bool, word: DriverWord) -> Outcome {
+        let block = self.block.as_mut();
         let page = self.page.as_mut();
         let hold = self.hold.as_ref();
         // SAFETY: as in `restart`.
         let number = unsafe {
-            ffi::punelovash_erase_complete(
-                self.block.as_mut_ptr(),
-                self.block.len(),
+            W::erase_complete(
+                block.as_mut_ptr(),
+                block.len(),
                 volume.as_ptr(),
                 volume.len(),
                 page.as_mut_ptr(),
@@ -191,15 +196,15 @@ impl<B: AsRef<[u8]> + AsMut<[u8]>> Log<B> {
                 word.number(),
             )
         };
-        block::outcome(&self.block, number)
+        self.outcome(number)
     }
 
     /// Reports the read or the seek that was answered OK.
     pub fn deferred_call(&mut self) -> Outcome {
+        let block = self.block.as_mut();
         // SAFETY: as in `restart`.
-        let number =
-            unsafe { ffi::punelovash_deferred_call(self.block.as_mut_ptr(), self.block.len()) };
-        block::outcome(&self.block, number)
+        let number = unsafe { W::deferred_call(block.as_mut_ptr(), block.len()) };
+        self.outcome(number)
     }
 
     /// `append`, where `start` asks the driver to start the request with the page buffer, and gives its word. It is called at
@@ -235,12 +240,16 @@ impl<B: AsRef<[u8]> + AsMut<[u8]>> Log<B> {
         self.asking(start, |log, word| log.erase_complete(volume, good, word))
     }
 
+    fn outcome(&self, number: u32) -> Outcome {
+        block::outcome::<W>(&self.block, number)
+    }
+
     /// The call as if the driver starts; if it refuses, the call from the same block with its word. The buffers are left alike
     /// whatever the word, so that the second call leaves what it would have left alone.
     fn asking<S, C>(&mut self, start: S, call: C) -> Outcome
     where
         S: FnOnce(Request, &[u8]) -> DriverWord,
-        C: Fn(&mut Log<B>, DriverWord) -> Outcome,
+        C: Fn(&mut Self, DriverWord) -> Outcome,
     {
         let before = self.block;
         let outcome = call(self, DriverWord::Ok);
@@ -257,14 +266,15 @@ impl<B: AsRef<[u8]> + AsMut<[u8]>> Log<B> {
     }
 }
 
-impl<B: AsRef<[u8]> + AsMut<[u8]>> LogRead for Log<B> {
+impl<B: AsRef<[u8]> + AsMut<[u8]>, W: Word> LogRead for Log<B, W> {
     fn read(&mut self, volume: &[u8], buffer: &mut [u8], length: usize) -> Outcome {
+        let block = self.block.as_mut();
         let page = self.page.as_ref();
         // SAFETY: as in `restart`.
         let number = unsafe {
-            ffi::punelovash_read(
-                self.block.as_mut_ptr(),
-                self.block.len(),
+            W::read(
+                block.as_mut_ptr(),
+                block.len(),
                 volume.as_ptr(),
                 volume.len(),
                 page.as_ptr(),
@@ -274,48 +284,51 @@ impl<B: AsRef<[u8]> + AsMut<[u8]>> LogRead for Log<B> {
                 length,
             )
         };
-        block::outcome(&self.block, number)
+        self.outcome(number)
     }
 
     fn log_start(&self) -> EntryID {
+        let block = self.block.as_ref();
         // SAFETY: the block lives through the call, which only reads it; so too in the other getters.
-        EntryID(unsafe { ffi::punelovash_log_start(self.block.as_ptr(), self.block.len()) })
+        EntryID(unsafe { W::log_start(block.as_ptr(), block.len()) })
     }
 
     fn log_end(&self) -> EntryID {
+        let block = self.block.as_ref();
         // SAFETY: as in `log_start`.
-        EntryID(unsafe { ffi::punelovash_log_end(self.block.as_ptr(), self.block.len()) })
+        EntryID(unsafe { W::log_end(block.as_ptr(), block.len()) })
     }
 
     fn next_read_entry_id(&self) -> EntryID {
+        let block = self.block.as_ref();
         // SAFETY: as in `log_start`.
-        EntryID(unsafe {
-            ffi::punelovash_next_read_entry_id(self.block.as_ptr(), self.block.len())
-        })
+        EntryID(unsafe { W::next_read_entry_id(block.as_ptr(), block.len()) })
     }
 
     fn seek(&mut self, entry: EntryID) -> Outcome {
+        let block = self.block.as_mut();
         // SAFETY: as in `restart`.
-        let number =
-            unsafe { ffi::punelovash_seek(self.block.as_mut_ptr(), self.block.len(), entry.0) };
-        block::outcome(&self.block, number)
+        let number = unsafe { W::seek(block.as_mut_ptr(), block.len(), entry.0) };
+        self.outcome(number)
     }
 
     fn get_size(&self) -> usize {
+        let block = self.block.as_ref();
         // SAFETY: as in `log_start`.
-        unsafe { ffi::punelovash_get_size(self.block.as_ptr(), self.block.len()) }
+        unsafe { W::get_size(block.as_ptr(), block.len()) }
     }
 }
 
-impl<B: AsRef<[u8]> + AsMut<[u8]>> LogWrite for Log<B> {
+impl<B: AsRef<[u8]> + AsMut<[u8]>, W: Word> LogWrite for Log<B, W> {
     fn append(&mut self, volume: &[u8], data: &[u8], length: usize, word: DriverWord) -> Outcome {
+        let block = self.block.as_mut();
         let page = self.page.as_mut();
         let hold = self.hold.as_mut();
         // SAFETY: as in `restart`.
         let number = unsafe {
-            ffi::punelovash_append(
-                self.block.as_mut_ptr(),
-                self.block.len(),
+            W::append(
+                block.as_mut_ptr(),
+                block.len(),
                 volume.as_ptr(),
                 volume.len(),
                 page.as_mut_ptr(),
@@ -328,17 +341,18 @@ impl<B: AsRef<[u8]> + AsMut<[u8]>> LogWrite for Log<B> {
                 word.number(),
             )
         };
-        block::outcome(&self.block, number)
+        self.outcome(number)
     }
 
     fn sync(&mut self, volume: &[u8], word: DriverWord) -> Outcome {
+        let block = self.block.as_mut();
         let page = self.page.as_mut();
         let hold = self.hold.as_ref();
         // SAFETY: as in `restart`.
         let number = unsafe {
-            ffi::punelovash_sync(
-                self.block.as_mut_ptr(),
-                self.block.len(),
+            W::sync(
+                block.as_mut_ptr(),
+                block.len(),
                 volume.as_ptr(),
                 volume.len(),
                 page.as_mut_ptr(),
@@ -348,14 +362,13 @@ impl<B: AsRef<[u8]> + AsMut<[u8]>> LogWrite for Log<B> {
                 word.number(),
             )
         };
-        block::outcome(&self.block, number)
+        self.outcome(number)
     }
 
     fn erase(&mut self, word: DriverWord) -> Outcome {
+        let block = self.block.as_mut();
         // SAFETY: as in `restart`.
-        let number = unsafe {
-            ffi::punelovash_erase(self.block.as_mut_ptr(), self.block.len(), word.number())
-        };
-        block::outcome(&self.block, number)
+        let number = unsafe { W::erase(block.as_mut_ptr(), block.len(), word.number()) };
+        self.outcome(number)
     }
 }

@@ -1,8 +1,8 @@
 //! What the library says in numbers, as types.
 
-/// The ID of an entry: it counts bytes from the log's beginning.
+/// The ID of an entry: it counts bytes from the log's beginning. It is a word; 64 bits hold it on both boards.
 #[derive(Clone, Copy, Debug, PartialEq, Eq, PartialOrd, Ord, Hash)]
-pub struct EntryID(pub usize);
+pub struct EntryID(pub u64);
 
 /// The number of a flash page: the first flash page plus the slot.
 #[derive(Clone, Copy, Debug, PartialEq, Eq, PartialOrd, Ord, Hash)]
@@ -135,7 +135,7 @@ pub enum Report {
     AppendDone {
         /// The entry's length; 0 where the result isn't Ok.
         length: usize,
-        /// The oldest ID isn't 4: entries were overwritten or erased.
+        /// The oldest ID isn't w, the first: entries were overwritten or erased.
         lost: bool,
         /// Ok, Fail or Cancel.
         result: Answer,

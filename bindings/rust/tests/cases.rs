@@ -1,15 +1,17 @@
-//! Worked cases: those of document 01, cuts, refusals, and the two ways to drive the flash.
+//! Worked cases on both boards: those of document 01, cuts, refusals, and the two ways to drive the flash.
 
 mod bench;
 
-use bench::{Flash, Left};
+use bench::{full, on_both_boards, put_word, Flash, Left};
+use punelovash::raw::At;
 use punelovash::{
-    survey, Answer, DriverWord, EntryID, Geometry, Log, LogRead, LogWrite, Mode, Outcome,
-    PageNumber, Report, Request, State, BLOCK_SIZE,
+    survey, Answer, DriverWord, EntryID, Geometry, Log, Log4, Log8, LogRead, LogWrite, Mode,
+    Outcome, PageNumber, Report, Request, State, Word,
 };
 
+const P: usize = 32;
 const SIZES: Geometry = Geometry {
-    page_size: 32,
+    page_size: P as u32,
     page_count: 4,
     first_page: 7,
 };
@@ -25,9 +27,9 @@ const PLAIN: Mode = Mode {
 const OK: DriverWord = DriverWord::Ok;
 const ONES: [u8; 64] = [1; 64];
 
-type Array = Log<[u8; 32]>;
+type Array<W> = Log<[u8; P], W>;
 
-fn fresh(mode: Mode) -> (Array, Flash) {
+fn fresh<W: Word>(mode: Mode) -> (Array<W>, Flash) {
     let flash = Flash::new(SIZES, 0xFF);
     let mut log = Log::new([0x33; 32], [0x44; 32]);
     let restarted = log.restart(SIZES, mode, &flash.volume);
@@ -51,14 +53,14 @@ fn done(length: usize, lost: bool) -> Report {
     }
 }
 
-fn ids(log: &Array) -> (usize, usize, usize) {
+fn ids<W: Word>(log: &Array<W>) -> (usize, usize, usize) {
     let (EntryID(o), EntryID(r), EntryID(a)) =
         (log.log_start(), log.next_read_entry_id(), log.log_end());
-    (o, r, a)
+    (o as usize, r as usize, a as usize)
 }
 
 /// appends, the write of a page included
-fn append(log: &mut Array, flash: &mut Flash, data: &[u8]) -> Report {
+fn append<W: Word>(log: &mut Array<W>, flash: &mut Flash, data: &[u8]) -> Report {
     let got = log.append(&flash.volume, data, data.len(), OK);
     assert_eq!(got.answer, Answer::Ok);
     if got.request == Request::Nothing {
@@ -69,14 +71,14 @@ fn append(log: &mut Array, flash: &mut Flash, data: &[u8]) -> Report {
     log.write_complete(&flash.volume, true).report
 }
 
-fn sync(log: &mut Array, flash: &mut Flash, left: Left) {
+fn sync<W: Word>(log: &mut Array<W>, flash: &mut Flash, left: Left) {
     let got = log.sync(&flash.volume, OK);
     assert_eq!(got.answer, Answer::Ok);
     flash.driver.start(got.request, log.page());
     flash.end(left, log.page());
 }
 
-fn read(log: &mut Array, flash: &Flash) -> Result<Vec<u8>, Answer> {
+fn read<W: Word>(log: &mut Array<W>, flash: &Flash) -> Result<Vec<u8>, Answer> {
     let mut buffer = [0xAA; 40];
     let got = log.read(&flash.volume, &mut buffer, 32);
     if got.answer != Answer::Ok {
@@ -92,7 +94,7 @@ fn read(log: &mut Array, flash: &Flash) -> Result<Vec<u8>, Answer> {
     Ok(buffer[..length].to_vec())
 }
 
-fn read_all(log: &mut Array, flash: &Flash) -> Vec<Vec<u8>> {
+fn read_all<W: Word>(log: &mut Array<W>, flash: &Flash) -> Vec<Vec<u8>> {
     let mut entries = Vec::new();
     loop {
         match read(log, flash) {
@@ -105,29 +107,54 @@ fn read_all(log: &mut Array, flash: &Flash) -> Vec<Vec<u8>> {
     }
 }
 
-#[test]
-fn a_fresh_log() {
-    let (mut log, flash) = fresh(CIRCULAR);
-    assert_eq!(ids(&log), (4, 4, 4));
-    assert_eq!(log.get_size(), 4 * 32 - 4 * 4);
+on_both_boards! {
+    a_fresh_log
+    appends_that_fill_a_page_and_open_the_next
+    laps_move_the_oldest_and_the_read_id
+    a_plain_log_is_full_in_the_end
+    cuts_in_a_sync
+    an_erase_ends_in_an_empty_log
+    seek_limits
+    the_ceiling
+    the_survey
+    clients_that_are_not_set
+    calls_that_are_not_due_and_a_busy_log
+    no_log_before_a_restart
+    refused_restarts_leave_the_log
+    the_smallest_page
+    a_block_that_holds_no_log
+    a_driver_that_refuses
+    borrowed_buffers_and_parts
+    empty_slices
+}
+
+fn a_fresh_log<W: Word>() {
+    let (w, full) = (W::BYTES, full::<W>(P));
+    let (mut log, flash) = fresh::<W>(CIRCULAR);
+    assert_eq!(ids(&log), (w, w, w));
+    assert_eq!(log.get_size(), 4 * P - 4 * w);
     assert_eq!(log.state(), Some(State::Idle));
     assert_eq!(log.page(), [0; 32]);
     assert_eq!(log.hold(), [0x44; 32]);
     assert_eq!(log.sync(&flash.volume, OK), nothing(Answer::Ok));
-    let got = log.append(&flash.volume, &ONES, 25, OK);
+    let got = log.append(&flash.volume, &ONES, full + 1, OK);
     assert_eq!(got, nothing(Answer::Size));
-    let got = log.append(&flash.volume, &ONES, 24, OK);
-    assert_eq!(got.report, done(24, false));
-    assert_eq!(ids(&log), (4, 4, 32));
+    let got = log.append(&flash.volume, &ONES, full, OK);
+    assert_eq!(got.report, done(full, false));
+    assert_eq!(ids(&log), (w, w, P));
 }
 
-#[test]
-fn appends_that_fill_a_page_and_open_the_next() {
-    let (mut log, mut flash) = fresh(CIRCULAR);
+fn appends_that_fill_a_page_and_open_the_next<W: Word>() {
+    let (w, full) = (W::BYTES, full::<W>(P));
+    let (mut log, mut flash) = fresh::<W>(CIRCULAR);
     assert_eq!(append(&mut log, &mut flash, &[1; 5]), done(5, false));
-    assert_eq!(ids(&log), (4, 4, 13));
-    assert_eq!(append(&mut log, &mut flash, &[2; 15]), done(15, false));
-    assert_eq!(ids(&log), (4, 4, 32));
+    assert_eq!(ids(&log), (w, w, 2 * w + 5));
+    let rest = full - w - 5;
+    assert_eq!(
+        append(&mut log, &mut flash, &vec![2; rest]),
+        done(rest, false)
+    );
+    assert_eq!(ids(&log), (w, w, P));
     let got = log.append(&flash.volume, &[3], 1, OK);
     assert_eq!(got.request, Request::Write(PageNumber(7)));
     assert_eq!(got.report, Report::Nothing);
@@ -136,72 +163,82 @@ fn appends_that_fill_a_page_and_open_the_next() {
     flash.end(Left::New, log.page());
     let got = log.write_complete(&flash.volume, true);
     assert_eq!(got.report, done(1, false));
-    assert_eq!(ids(&log), (4, 4, 41));
+    assert_eq!(ids(&log), (w, w, P + 2 * w + 1));
 
-    let (mut log, mut flash) = fresh(CIRCULAR);
-    append(&mut log, &mut flash, &[1; 20]);
+    let (mut log, mut flash) = fresh::<W>(CIRCULAR);
+    append(&mut log, &mut flash, &vec![1; full - 4]);
     append(&mut log, &mut flash, &[2]);
-    assert_eq!(ids(&log), (4, 4, 41));
-    assert_eq!(flash.volume[28..32], [0xFF; 4]);
-    assert_eq!(read_all(&mut log, &flash), [vec![1; 20], vec![2]]);
+    assert_eq!(ids(&log), (w, w, P + 2 * w + 1));
+    assert_eq!(flash.volume[P - 4..P], [0xFF; 4]);
+    assert_eq!(read_all(&mut log, &flash), [vec![1; full - 4], vec![2]]);
 }
 
-#[test]
-fn laps_move_the_oldest_and_the_read_id() {
-    let (mut log, mut flash) = fresh(CIRCULAR);
+fn laps_move_the_oldest_and_the_read_id<W: Word>() {
+    let (w, full) = (W::BYTES, full::<W>(P));
+    let (mut log, mut flash) = fresh::<W>(CIRCULAR);
     for k in 0..5 {
-        assert_eq!(append(&mut log, &mut flash, &[k; 24]), done(24, false));
+        assert_eq!(
+            append(&mut log, &mut flash, &vec![k; full]),
+            done(full, false)
+        );
     }
-    assert_eq!(ids(&log), (4, 4, 160));
-    assert_eq!(append(&mut log, &mut flash, &[5; 24]), done(24, true));
-    assert_eq!(ids(&log), (36, 36, 192));
+    assert_eq!(ids(&log), (w, w, 5 * P));
+    assert_eq!(
+        append(&mut log, &mut flash, &vec![5; full]),
+        done(full, true)
+    );
+    assert_eq!(ids(&log), (P + w, P + w, 6 * P));
     for k in 6..100 {
-        append(&mut log, &mut flash, &[k; 24]);
+        append(&mut log, &mut flash, &vec![k; full]);
     }
-    let entries: Vec<_> = (95..100).map(|k| vec![k; 24]).collect();
+    let entries: Vec<_> = (95..100).map(|k| vec![k; full]).collect();
     assert_eq!(read_all(&mut log, &flash), entries);
 }
 
-#[test]
-fn a_plain_log_is_full_in_the_end() {
-    let (mut log, mut flash) = fresh(PLAIN);
+fn a_plain_log_is_full_in_the_end<W: Word>() {
+    let (w, full) = (W::BYTES, full::<W>(P));
+    let (mut log, mut flash) = fresh::<W>(PLAIN);
     for k in 0..4 {
-        append(&mut log, &mut flash, &[k; 24]);
+        append(&mut log, &mut flash, &vec![k; full]);
     }
-    assert_eq!(ids(&log), (4, 4, 128));
+    assert_eq!(ids(&log), (w, w, 4 * P));
     let got = log.append(&flash.volume, &ONES, 1, OK);
     assert_eq!(got, nothing(Answer::Fail));
     sync(&mut log, &mut flash, Left::New);
     let got = log.write_complete(&flash.volume, true);
     assert_eq!(got.report, Report::SyncDone(Answer::Ok));
-    assert_eq!(ids(&log), (4, 4, 128));
+    assert_eq!(ids(&log), (w, w, 4 * P));
     assert_eq!(read_all(&mut log, &flash).len(), 4);
 }
 
-#[test]
-fn cuts_in_a_sync() {
-    for (left, end, count) in [(Left::Old, 13, 1), (Left::Blank, 4, 0), (Left::New, 28, 2)] {
-        let (mut log, mut flash) = fresh(CIRCULAR);
+fn cuts_in_a_sync<W: Word>() {
+    let w = W::BYTES;
+    for (left, end, count) in [
+        (Left::Old, 2 * w + 5, 1),
+        (Left::Blank, w, 0),
+        (Left::New, 3 * w + 7, 2),
+    ] {
+        let (mut log, mut flash) = fresh::<W>(CIRCULAR);
         append(&mut log, &mut flash, &[1; 5]);
         sync(&mut log, &mut flash, Left::New);
         let got = log.write_complete(&flash.volume, true);
         assert_eq!(got.report, Report::SyncDone(Answer::Ok));
-        append(&mut log, &mut flash, &[2; 11]);
+        append(&mut log, &mut flash, &[2; 2]);
         sync(&mut log, &mut flash, left);
-        let mut log = Log::new([0x77; 32], [0x66; 32]);
+        let mut log = Log::<_, W>::new([0x77; 32], [0x66; 32]);
         let got = log.restart(SIZES, CIRCULAR, &flash.volume);
         assert_eq!(got, nothing(Answer::Ok));
-        assert_eq!(ids(&log), (4, 4, end));
-        let entries = [vec![1; 5], vec![2; 11]];
+        assert_eq!(ids(&log), (w, w, end));
+        let entries = [vec![1; 5], vec![2; 2]];
         assert_eq!(read_all(&mut log, &flash), entries[..count]);
     }
 }
 
-#[test]
-fn an_erase_ends_in_an_empty_log() {
-    let (mut log, mut flash) = fresh(CIRCULAR);
+fn an_erase_ends_in_an_empty_log<W: Word>() {
+    let (w, full) = (W::BYTES, full::<W>(P));
+    let (mut log, mut flash) = fresh::<W>(CIRCULAR);
     for k in 0..9 {
-        append(&mut log, &mut flash, &[k; 20]);
+        append(&mut log, &mut flash, &vec![k; full - 4]);
     }
     let mut got = log.erase(OK);
     assert_eq!(got.answer, Answer::Ok);
@@ -213,88 +250,88 @@ fn an_erase_ends_in_an_empty_log() {
     }
     assert_eq!(got.report, Report::EraseDone(Answer::Ok));
     assert_eq!(got.request, Request::Nothing);
-    assert_eq!(ids(&log), (4, 4, 4));
+    assert_eq!(ids(&log), (w, w, w));
     assert!(flash.volume.iter().all(|byte| *byte == 0xFF));
     assert_eq!(log.page(), [0; 32]);
 }
 
-#[test]
-fn seek_limits() {
-    let (mut log, mut flash) = fresh(CIRCULAR);
+fn seek_limits<W: Word>() {
+    let w = W::BYTES;
+    let (mut log, mut flash) = fresh::<W>(CIRCULAR);
     append(&mut log, &mut flash, &[1; 5]);
-    append(&mut log, &mut flash, &[2; 6]);
+    append(&mut log, &mut flash, &[2; 2]);
     for (id, answer) in [
-        (3, Answer::Inval),
-        (4, Answer::Ok),
-        (13, Answer::Ok),
-        (23, Answer::Ok),
-        (24, Answer::Inval),
+        (w - 1, Answer::Inval),
+        (w, Answer::Ok),
+        (2 * w + 5, Answer::Ok),
+        (3 * w + 7, Answer::Ok),
+        (3 * w + 8, Answer::Inval),
         (usize::MAX, Answer::Inval),
     ] {
-        let got = log.seek(EntryID(id));
+        let got = log.seek(EntryID(id as u64));
         assert_eq!(got, nothing(answer), "seek to {id}");
         let due = log.deferred_call().report;
         let sought = answer == Answer::Ok;
         assert_eq!(due == Report::SeekDone(Answer::Ok), sought);
     }
-    assert_eq!(log.seek(EntryID(13)).answer, Answer::Ok);
-    let got = log.seek(EntryID(13));
+    let second = EntryID(2 * w as u64 + 5);
+    assert_eq!(log.seek(second).answer, Answer::Ok);
+    let got = log.seek(second);
     assert_eq!(got, nothing(Answer::Busy));
     let _ = log.deferred_call();
-    assert_eq!(read_all(&mut log, &flash), [vec![2; 6]]);
+    assert_eq!(read_all(&mut log, &flash), [vec![2; 2]]);
 }
 
-#[test]
-fn the_ceiling() {
+fn the_ceiling<W: Word>() {
+    let w = W::BYTES;
     let mut flash = Flash::new(SIZES, 0xFF);
-    flash.volume[96..100].copy_from_slice(&1_879_048_160_u32.to_le_bytes());
-    flash.volume[100..104].copy_from_slice(&24_u32.to_le_bytes());
-    let mut log = Log::new([0; 32], [0; 32]);
+    put_word::<W>(&mut flash.volume, 3 * P, W::CEILING - P as u64);
+    put_word::<W>(&mut flash.volume, 3 * P + w, full::<W>(P) as u64);
+    let mut log = Log::<_, W>::new([0; 32], [0; 32]);
     let got = log.restart(SIZES, CIRCULAR, &flash.volume);
     assert_eq!(got, nothing(Answer::Ok));
-    assert_eq!(log.log_end(), EntryID(1_879_048_192));
+    assert_eq!(log.log_end(), EntryID(W::CEILING));
     let got = log.append(&flash.volume, &ONES, 1, OK);
     assert_eq!(got, nothing(Answer::Limit));
 }
 
-#[test]
-fn the_survey() {
-    let (mut log, mut flash) = fresh(CIRCULAR);
-    assert_eq!(survey(SIZES, &flash.volume, &mut []), Ok(0));
+fn the_survey<W: Word>() {
+    let full = full::<W>(P);
+    let (mut log, mut flash) = fresh::<W>(CIRCULAR);
+    assert_eq!(survey::<W>(SIZES, &flash.volume, &mut []), Ok(0));
     for k in 0..22 {
-        append(&mut log, &mut flash, &[k; 24]);
+        append(&mut log, &mut flash, &vec![k; full]);
     }
-    let mut ids = [7; 5];
+    let word = |number: u32| W::from(number);
+    let mut ids = [word(7); 5];
     assert_eq!(survey(SIZES, &flash.volume, &mut ids), Ok(4));
     ids[..4].sort();
-    assert_eq!(ids, [17 * 32, 18 * 32, 19 * 32, 20 * 32, 7]);
-    let mut few = [7; 3];
+    assert_eq!(ids, [17 * 32, 18 * 32, 19 * 32, 20 * 32, 7].map(word));
+    let mut few = [word(7); 3];
     let refused = survey(SIZES, &flash.volume, &mut few);
     assert_eq!(refused, Err(Answer::Size));
     let refused = survey(SIZES, &flash.volume[1..], &mut ids);
     assert_eq!(refused, Err(Answer::Shape));
-    assert_eq!(few, [7; 3]);
+    assert_eq!(few, [word(7); 3]);
 }
 
-#[test]
-fn clients_that_are_not_set() {
+fn clients_that_are_not_set<W: Word>() {
     let mode = Mode {
         read_client: false,
         append_client: false,
         ..CIRCULAR
     };
-    let (mut log, flash) = fresh(mode);
+    let (mut log, flash) = fresh::<W>(mode);
     let volume = &flash.volume;
     assert_eq!(log.append(volume, &ONES, 1, OK), nothing(Answer::Reserve));
     assert_eq!(log.erase(OK), nothing(Answer::Reserve));
-    assert_eq!(log.seek(EntryID(4)), nothing(Answer::Reserve));
+    assert_eq!(log.seek(EntryID(W::BYTES as u64)), nothing(Answer::Reserve));
     let got = log.read(volume, &mut [0; 32], 32);
     assert_eq!(got, nothing(Answer::Reserve));
 }
 
-#[test]
-fn calls_that_are_not_due_and_a_busy_log() {
-    let (mut log, mut flash) = fresh(CIRCULAR);
+fn calls_that_are_not_due_and_a_busy_log<W: Word>() {
+    let (mut log, mut flash) = fresh::<W>(CIRCULAR);
     append(&mut log, &mut flash, &[1; 5]);
     let volume = &flash.volume;
     assert_eq!(log.write_complete(volume, true), nothing(Answer::Stray));
@@ -309,23 +346,21 @@ fn calls_that_are_not_due_and_a_busy_log() {
     assert_eq!(log.erase_complete(volume, true, OK), nothing(Answer::Stray));
 }
 
-#[test]
-fn no_log_before_a_restart() {
+fn no_log_before_a_restart<W: Word>() {
     let volume = [0xFF; 128];
-    let mut log = Log::new([0; 32], [0; 32]);
+    let mut log = Log::<_, W>::new([0; 32], [0; 32]);
     assert_eq!(log.append(&volume, &ONES, 1, OK), nothing(Answer::Shape));
     assert_eq!(log.sync(&volume, OK), nothing(Answer::Shape));
     assert_eq!(log.deferred_call(), nothing(Answer::Shape));
     assert_eq!(ids(&log), (0, 0, 0));
     assert_eq!(log.get_size(), 0);
-    assert_eq!(log.block(), &[0; BLOCK_SIZE]);
+    assert_eq!(log.block(), &W::ZEROS);
 }
 
-#[test]
-fn refused_restarts_leave_the_log() {
-    let (mut log, mut flash) = fresh(CIRCULAR);
+fn refused_restarts_leave_the_log<W: Word>() {
+    let (mut log, mut flash) = fresh::<W>(CIRCULAR);
     append(&mut log, &mut flash, &[1; 5]);
-    let before = log.block().to_owned();
+    let before = *log.block();
     for (page_size, page_count, first_page) in [
         (16, 4, 0),
         (64, 4, 0),
@@ -352,42 +387,57 @@ fn refused_restarts_leave_the_log() {
     assert_eq!(read_all(&mut log, &flash), [vec![1; 5]]);
 }
 
-#[test]
-fn a_block_that_holds_no_log() {
+fn the_smallest_page<W: Word>() {
+    let restart = |p: usize| {
+        let sizes = Geometry {
+            page_size: p as u32,
+            ..SIZES
+        };
+        let mut log = Log::<_, W>::new(vec![0; p], vec![0; p]);
+        let answer = log.restart(sizes, CIRCULAR, &vec![0xFF; 4 * p]).answer;
+        (answer, log.get_size())
+    };
+    let w = W::BYTES;
+    assert_eq!(restart(2 * w), (Answer::Shape, 0));
+    assert_eq!(restart(4 * w), (Answer::Ok, 4 * 3 * w));
+}
+
+fn a_block_that_holds_no_log<W: Word>() {
     let volume = [0xFF; 128];
-    for (at, byte) in [(12, 8), (12, 128), (12, 255), (15, 6)] {
-        let mut block = [0; BLOCK_SIZE];
-        block[at] = byte;
-        block[32] = 1; // a report and a request that nobody made
-        block[35] = 1;
-        let mut log = Log::from_parts(block, [0; 32], [0; 32]);
+    let (flags, state) = (At::<W>::FLAGS, At::<W>::STATE);
+    for (at, byte) in [(flags, 8), (flags, 128), (flags, 255), (state, 6)] {
+        let mut block = W::ZEROS;
+        block.as_mut()[at] = byte;
+        block.as_mut()[At::<W>::REPORT] = 1; // a report and a request that nobody made
+        block.as_mut()[At::<W>::REQUEST] = 1;
+        let mut log = Log::<_, W>::from_parts(block, [0; 32], [0; 32]);
         assert_eq!(log.append(&volume, &ONES, 1, OK), nothing(Answer::State));
         assert_eq!(log.erase(OK), nothing(Answer::State));
         let start = |_: Request, _: &[u8]| panic!("nothing is requested");
         assert_eq!(log.sync_with(&volume, start), nothing(Answer::State));
         assert_eq!(log.block(), &block);
-        assert_eq!(log.state().is_none(), at == 15);
+        assert_eq!(log.state().is_none(), at == state);
         assert_eq!(ids(&log), (0, 0, 0));
         let got = log.restart(SIZES, CIRCULAR, &volume);
         assert_eq!(got, nothing(Answer::Ok));
     }
 }
 
-#[test]
-fn a_driver_that_refuses() {
+fn a_driver_that_refuses<W: Word>() {
+    let (w, full) = (W::BYTES, full::<W>(P));
     for (word, answer) in [
         (DriverWord::Busy, Answer::Busy),
         (DriverWord::Fail, Answer::Fail),
     ] {
-        let (mut log, mut flash) = fresh(CIRCULAR);
+        let (mut log, mut flash) = fresh::<W>(CIRCULAR);
         for k in 0..5 {
-            append(&mut log, &mut flash, &[k; 24]);
+            append(&mut log, &mut flash, &vec![k; full]);
         }
         // directly, and by asking in between: the same log and buffers
         let mut other = log.clone();
-        let got = log.append(&flash.volume, &[5; 24], 24, word);
+        let got = log.append(&flash.volume, &vec![5; full], full, word);
         let mut asked = 0;
-        let again = other.append_with(&flash.volume, &[5; 24], 24, |request, _| {
+        let again = other.append_with(&flash.volume, &vec![5; full], full, |request, _| {
             assert_eq!(request, Request::Write(PageNumber(7)));
             asked += 1;
             word
@@ -399,10 +449,10 @@ fn a_driver_that_refuses() {
         assert_eq!(log.page(), other.page());
         assert_eq!(log.hold(), other.hold());
         assert_eq!(log.state(), Some(State::Idle));
-        assert_eq!(ids(&log), (36, 36, 160));
+        assert_eq!(ids(&log), (P + w, P + w, 5 * P));
         // the same append, once the driver is willing
-        append(&mut log, &mut flash, &[5; 24]);
-        let entries: Vec<_> = (1..6).map(|k| vec![k; 24]).collect();
+        append(&mut log, &mut flash, &vec![5; full]);
+        let entries: Vec<_> = (1..6).map(|k| vec![k; full]).collect();
         assert_eq!(read_all(&mut log, &flash), entries);
 
         // a refused erase stays in Erase ..
@@ -418,12 +468,11 @@ fn a_driver_that_refuses() {
     }
 }
 
-#[test]
-fn borrowed_buffers_and_parts() {
+fn borrowed_buffers_and_parts<W: Word>() {
     let mut volume = vec![0xFF; 128];
     let (mut page, mut hold) = (vec![0; 32], vec![0; 32]);
     let block = {
-        let mut log = Log::new(&mut page[..], &mut hold[..]);
+        let mut log = Log::<_, W>::new(&mut page[..], &mut hold[..]);
         let got = log.restart(SIZES, CIRCULAR, &volume);
         assert_eq!(got.answer, Answer::Ok);
         let got = log.append(&volume, b"kept", 4, OK);
@@ -432,7 +481,7 @@ fn borrowed_buffers_and_parts() {
         *log.block()
     };
     volume[..32].copy_from_slice(&page);
-    let mut log = Log::from_parts(block, page, hold);
+    let mut log = Log::<_, W>::from_parts(block, page, hold);
     let got = log.write_complete(&volume, true);
     assert_eq!(got.report, Report::SyncDone(Answer::Ok));
     let log: &mut dyn LogRead = &mut log;
@@ -441,19 +490,32 @@ fn borrowed_buffers_and_parts() {
     assert_eq!(&buffer[..4], b"kept");
 }
 
-#[test]
-fn empty_slices() {
-    let mut log: Log<Vec<u8>> = Log::new(vec![], vec![]);
+fn empty_slices<W: Word>() {
+    let mut log: Log<Vec<u8>, W> = Log::new(vec![], vec![]);
     assert_eq!(log.restart(SIZES, CIRCULAR, &[]), nothing(Answer::Shape));
     assert_eq!(log.append(&[], &[], 0, OK), nothing(Answer::Shape));
     assert_eq!(log.read(&[], &mut [], 0), nothing(Answer::Shape));
-    let (mut log, mut flash) = fresh(CIRCULAR);
+    let (mut log, mut flash) = fresh::<W>(CIRCULAR);
     assert_eq!(
         log.append(&flash.volume, &[], 0, OK),
         nothing(Answer::Inval)
     );
     append(&mut log, &mut flash, &[1; 5]);
     assert_eq!(log.read(&flash.volume, &mut [], 0), nothing(Answer::Size));
+}
+
+#[test]
+fn a_page_of_16_bytes_is_for_one_board() {
+    let sizes = Geometry {
+        page_size: 16,
+        ..SIZES
+    };
+    let volume = [0xFF; 64];
+    let mut four = Log4::new([0; 16], [0; 16]);
+    assert_eq!(four.restart(sizes, CIRCULAR, &volume), nothing(Answer::Ok));
+    let mut eight = Log8::new([0; 16], [0; 16]);
+    let got = eight.restart(sizes, CIRCULAR, &volume);
+    assert_eq!(got, nothing(Answer::Shape));
 }
 
 #[test]

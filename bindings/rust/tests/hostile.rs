@@ -1,18 +1,18 @@
-//! Blocks, volumes and buffers of any bytes and lengths: every call answers by the table, a refusal changes nothing, and no
-//! byte outside of what is lent is written.
+//! Blocks, volumes and buffers of any bytes and lengths, on both boards: every call answers by the table, a refusal changes
+//! nothing, and no byte outside of what is lent is written.
 
 mod bench;
 
-use bench::Random;
+use bench::{full, on_both_boards, put_word, Random};
+use punelovash::raw::At;
 use punelovash::{
     Answer, DriverWord, EntryID, Geometry, Log, LogRead, LogWrite, Mode, Outcome, Report, Request,
-    BLOCK_SIZE,
+    Word,
 };
 use std::collections::BTreeMap;
 
 const ROUNDS: usize = 150_000;
 const GUARD: usize = 16;
-const CEILING: usize = 1_879_048_192;
 
 /// Bytes between two rows of 0xA5.
 struct Guarded(Vec<u8>);
@@ -46,64 +46,74 @@ fn number(block: &[u8], at: usize) -> usize {
 }
 
 /// Flags and a state that a log can have, so that there are sizes to look at.
-fn holds_log(block: &[u8]) -> bool {
-    block[12] <= 7 && block[15] <= 5
+fn holds_log<W: Word>(block: &[u8]) -> bool {
+    block[At::<W>::FLAGS] <= 7 && block[At::<W>::STATE] <= 5
 }
 
-fn sizes_fit(block: &[u8]) -> bool {
-    let (p, n) = (number(block, 0), number(block, 4));
-    let pages = (1..=4096).contains(&n) && number(block, 8) <= 16_777_215;
-    (16..=4096).contains(&p) && p.is_power_of_two() && pages
+fn sizes_in<W: Word>(block: &[u8]) -> (usize, usize) {
+    let p = number(block, At::<W>::PAGE_SIZE);
+    (p, number(block, At::<W>::PAGE_COUNT))
+}
+
+fn sizes_fit<W: Word>(block: &[u8]) -> bool {
+    let (p, n) = sizes_in::<W>(block);
+    let pages = (1..=4096).contains(&n) && number(block, At::<W>::FIRST_PAGE) <= 16_777_215;
+    (4 * W::BYTES..=4096).contains(&p) && p.is_power_of_two() && pages
 }
 
 /// A block of any bytes, or one that is nearly a log's.
-fn block(random: &mut Random, p: usize, n: usize) -> [u8; BLOCK_SIZE] {
-    let mut block: [u8; BLOCK_SIZE] = random.bytes(BLOCK_SIZE).try_into().unwrap();
+fn block<W: Word>(random: &mut Random, p: usize, n: usize) -> W::Block {
+    let mut all = W::ZEROS;
+    let block = all.as_mut();
+    block.fill_with(|| random.next() as u8);
     if random.one_in(20) {
-        return block;
+        return all;
     }
-    put(&mut block, 0, p as u32);
-    put(&mut block, 4, n as u32);
-    put(&mut block, 8, random.below(100) as u32);
-    block[12] = random.below(8) as u8;
-    block[15] = random.below(6) as u8;
-    let last = CEILING / p - 1;
+    put(block, At::<W>::PAGE_SIZE, p as u32);
+    put(block, At::<W>::PAGE_COUNT, n as u32);
+    put(block, At::<W>::FIRST_PAGE, random.below(100) as u32);
+    block[At::<W>::FLAGS] = random.below(8) as u8;
+    block[At::<W>::STATE] = random.below(6) as u8;
+    let w = W::BYTES;
+    let last = W::CEILING as usize / p - 1;
     let any = random.below(last);
-    let oldest = random.pick(&[0, 1, n, any, last]) * p + 4;
+    let oldest = random.pick(&[0, 1, n, any, last]) * p + w;
     let ahead = random.below(p * (n + 1));
-    let append = random.pick(&[oldest + ahead, oldest + p - 4]);
+    let append = random.pick(&[oldest + ahead, oldest + p - w]);
     let any = random.below(append + 9);
     let read = random.pick(&[oldest, append, append + 1, any]);
-    put(&mut block, 16, oldest as u32);
-    put(&mut block, 20, read as u32);
-    put(&mut block, 24, append as u32);
-    put(&mut block, 28, random.below(p - 7) as u32);
+    put_word::<W>(block, At::<W>::OLDEST, oldest as u64);
+    put_word::<W>(block, At::<W>::READ, read as u64);
+    put_word::<W>(block, At::<W>::APPEND, append as u64);
+    put(block, At::<W>::KEPT, random.below(full::<W>(p) + 1) as u32);
     if random.one_in(6) {
-        let at = random.below(32);
+        let at = random.below(At::<W>::REPORT);
         block[at] = random.next() as u8;
     }
-    block
+    all
 }
 
 /// Bytes that are now and then headers and small lengths.
-fn bytes(random: &mut Random, length: usize) -> Vec<u8> {
+fn bytes<W: Word>(random: &mut Random, length: usize) -> Vec<u8> {
     let kind = random.below(4);
     (0..length)
         .map(|i| match kind {
             0 => 0xFF,
             1 => random.next() as u8,
-            _ if i % 4 == 0 => random.pick(&[1, 2, 4, 8, 0, 0xFF]),
+            _ if i % W::BYTES == 0 => random.pick(&[1, 2, 4, 8, 0, 0xFF]),
             _ => 0,
         })
         .collect()
 }
 
-#[test]
-fn any_bytes_are_answered_by_the_table() {
+on_both_boards! { any_bytes_are_answered_by_the_table }
+
+fn any_bytes_are_answered_by_the_table<W: Word>() {
     let mut random = Random(7);
     let mut met: BTreeMap<(usize, u32), u64> = BTreeMap::new();
     for _ in 0..ROUNDS {
-        let p = random.pick(&[16, 16, 32, 64]);
+        let w = W::BYTES;
+        let p = random.pick(&[4 * w, 4 * w, 8 * w, 64]);
         let n = 1 + random.below(4);
         let length = |random: &mut Random, right: usize| match random.below(40) {
             0 => 0,
@@ -116,18 +126,18 @@ fn any_bytes_are_answered_by_the_table() {
             length(&mut random, p),
             length(&mut random, p),
         ];
-        let volume = bytes(&mut random, lengths[0]);
-        let page = bytes(&mut random, lengths[1]);
-        let hold = bytes(&mut random, lengths[2]);
+        let volume = bytes::<W>(&mut random, lengths[0]);
+        let page = bytes::<W>(&mut random, lengths[1]);
+        let hold = bytes::<W>(&mut random, lengths[2]);
         let room = random.below(p + 3);
-        let buffer = bytes(&mut random, room);
-        let size = random.pick(&[0, 1, p - 8, p, room, room + 1, usize::MAX]);
+        let buffer = bytes::<W>(&mut random, room);
+        let size = random.pick(&[0, 1, full::<W>(p), p, room, room + 1, usize::MAX]);
         let any = random.below(8 * p);
-        let id = random.pick(&[4, p + 4, 0, usize::MAX, any]);
+        let id = EntryID(random.pick(&[w, p + w, 0, usize::MAX, any]) as u64);
         let word = random.pick(&[DriverWord::Ok, DriverWord::Busy, DriverWord::Fail]);
         let good = random.one_in(2);
         let call = random.below(9);
-        let before = block(&mut random, p, n);
+        let before = block::<W>(&mut random, p, n);
         let sizes = Geometry {
             page_size: random.pick(&[p as u32, p as u32, p as u32, 0, 24, u32::MAX]),
             page_count: n as u32,
@@ -137,11 +147,11 @@ fn any_bytes_are_answered_by_the_table() {
         let mut pages = Guarded::new(&page);
         let mut holds = Guarded::new(&hold);
         let mut buffers = Guarded::new(&buffer);
-        let mut log = Log::from_parts(before, pages.bytes(), holds.bytes());
+        let mut log = Log::<_, W>::from_parts(before, pages.bytes(), holds.bytes());
         let got = match call {
             0 => log.append(&volume, &buffer, size, word),
             1 => log.read(&volume, buffers.bytes(), size),
-            2 => log.seek(EntryID(id)),
+            2 => log.seek(id),
             3 => log.sync(&volume, word),
             4 => log.erase(word),
             5 => log.write_complete(&volume, good),
@@ -151,6 +161,7 @@ fn any_bytes_are_answered_by_the_table() {
         };
         let _ = (log.state(), log.get_size(), log.log_start(), log.log_end());
         let (after, _, _) = log.into_parts();
+        let (before, after) = (before.as_ref(), after.as_ref());
         pages.check();
         holds.check();
         buffers.check();
@@ -159,20 +170,20 @@ fn any_bytes_are_answered_by_the_table() {
 
         // SHAPE looks at the sizes, and at the lengths of what the call is lent
         if call != 8 {
-            let (p, n) = (number(&before, 0), number(&before, 4));
+            let (p, n) = sizes_in::<W>(before);
             let fits = [lengths[0] == n * p, lengths[1] == p, lengths[2] == p];
             let lent = match call {
                 2 | 4 | 7 => &fits[..0],
                 1 => &fits[..2],
                 _ => &fits[..],
             };
-            let fit = sizes_fit(&before) && lent.iter().all(|fits| *fits);
-            let shape = holds_log(&before) && !fit;
+            let fit = sizes_fit::<W>(before) && lent.iter().all(|fits| *fits);
+            let shape = holds_log::<W>(before) && !fit;
             assert_eq!(got.answer == Answer::Shape, shape, "call {call}: {got:?}");
             // sizes, mode and clients are a restart's to set
-            assert_eq!(after[..15], before[..15]);
+            assert_eq!(after[..At::<W>::STATE], before[..At::<W>::STATE]);
         } else if got.answer == Answer::Ok {
-            assert_eq!(after[12], 7, "circular, with both clients");
+            assert_eq!(after[At::<W>::FLAGS], 7, "circular, with both clients");
         }
         assert_eq!(after[13..15], before[13..15], "bytes that are not used");
         let said = match word {
@@ -194,8 +205,9 @@ fn any_bytes_are_answered_by_the_table() {
             }
             Answer::Cancel => {
                 // R = O
-                assert_eq!(after[20..24], before[16..20]);
-                assert_eq!(after[24..32], before[24..32]);
+                assert_eq!(after[At::<W>::READ..][..w], before[At::<W>::OLDEST..][..w]);
+                let rest = At::<W>::APPEND..At::<W>::REPORT;
+                assert_eq!(after[rest.clone()], before[rest]);
                 assert_eq!(got, nothing);
                 false
             }
@@ -203,7 +215,8 @@ fn any_bytes_are_answered_by_the_table() {
         };
         if refused {
             assert_eq!(got, nothing);
-            assert_eq!(after[..32], before[..32], "the log after {:?}", got.answer);
+            let log = ..At::<W>::REPORT;
+            assert_eq!(after[log], before[log], "the log after {:?}", got.answer);
             assert_eq!(
                 pages.bytes(),
                 page,

@@ -1,34 +1,37 @@
-//! Random lists of calls, completions, power cuts and restarts: every answer, report, request, ID and byte read is held to the
-//! model.
+//! Random lists of calls, completions, power cuts and restarts, on both boards: every answer, report, request, ID and byte read
+//! is held to the model.
 
 mod bench;
 
 use bench::model::Model;
-use bench::{Flash, Left, Random};
+use bench::{full, on_both_boards, put_word, Flash, Left, Random};
 use punelovash::{
     survey, Answer, DriverWord, EntryID, Geometry, Log, LogRead, LogWrite, Mode, Outcome, Report,
-    Request, State,
+    Request, State, Word,
 };
 use std::collections::BTreeMap;
 
 const LISTS: u64 = 1500;
 const EVENTS: usize = 150;
 
-struct Run {
+struct Run<W: Word> {
     random: Random,
     sizes: Geometry,
     mode: Mode,
-    log: Log<Vec<u8>>,
+    /// the first ID of the page that the volume begins with; 0 where it is blank
+    from: usize,
+    log: Log<Vec<u8>, W>,
     flash: Flash,
     model: Model,
     met: BTreeMap<String, u64>,
 }
 
-impl Run {
-    fn new(seed: u64) -> Run {
+impl<W: Word> Run<W> {
+    fn new(seed: u64) -> Run<W> {
         let mut random = Random(seed);
+        let w = W::BYTES as u32;
         let sizes = Geometry {
-            page_size: random.pick(&[16, 32, 32, 64, 128, 512]),
+            page_size: random.pick(&[4 * w, 8 * w, 8 * w, 16 * w, 32 * w, 512]),
             page_count: random.pick(&[1, 2, 3, 4, 7]),
             first_page: random.pick(&[0, 9, 16_777_215]),
         };
@@ -37,15 +40,31 @@ impl Run {
             ..Mode::default()
         };
         let p = sizes.page_size as usize;
-        Run {
+        let mut run = Run {
             sizes,
             mode,
+            from: 0,
             log: Log::new(random.bytes(p), random.bytes(p)),
             flash: Flash::new(sizes, 0xFF),
-            model: Model::new(sizes, mode),
+            model: Model::new::<W>(sizes, mode),
             met: BTreeMap::new(),
             random,
+        };
+        if mode.circular && run.random.one_in(4) {
+            run.begin_far_on();
         }
+        run
+    }
+
+    /// The volume begins with a page that has a great ID, and no entry.
+    fn begin_far_on(&mut self) {
+        let p = self.p();
+        let number = W::CEILING as usize / 2 / p + self.random.below(p);
+        self.from = number * p;
+        self.model.put_page(number);
+        let slot = number % self.sizes.page_count as usize;
+        put_word::<W>(&mut self.flash.volume, slot * p, self.from as u64);
+        self.meet("begun far on".into());
     }
 
     fn p(&self) -> usize {
@@ -64,20 +83,16 @@ impl Run {
             Some(self.model.state),
             "state after {name}"
         );
-        assert_eq!(
+        let ids = [
             self.log.log_start(),
-            EntryID(self.model.start()),
-            "O after {name}"
-        );
-        assert_eq!(
             self.log.next_read_entry_id(),
-            EntryID(self.model.read),
-            "R after {name}"
-        );
-        assert_eq!(
             self.log.log_end(),
-            EntryID(self.model.end()),
-            "A after {name}"
+        ];
+        let wanted = [self.model.start(), self.model.read, self.model.end()];
+        assert_eq!(
+            ids,
+            wanted.map(|id| EntryID(id as u64)),
+            "O, R and A after {name}"
         );
         assert_eq!(
             self.log.kept_length(),
@@ -117,13 +132,14 @@ impl Run {
 
     fn append(&mut self) {
         let p = self.p();
+        let full = full::<W>(p);
         let length = match self.random.below(12) {
-            0 => self.random.pick(&[0, p - 7, p, p + 1, usize::MAX]),
-            1 => p - 8,
-            2..=5 => 1 + self.random.below(p - 8),
-            _ => 1 + self.random.below((p - 8).min(20)),
+            0 => self.random.pick(&[0, full + 1, p, p + 1, usize::MAX]),
+            1 => full,
+            2..=5 => 1 + self.random.below(full),
+            _ => 1 + self.random.below(full.min(20)),
         };
-        if length != 0 && length <= p - 8 && [0, 255].contains(&(length % 256)) {
+        if length != 0 && length <= full && [0, 255].contains(&(length % 256)) {
             return;
         }
         let room = match self.random.below(10) {
@@ -257,7 +273,7 @@ impl Run {
             _ => self.random.pick(&ids),
         };
         let want = self.model.seek(id);
-        let got = self.log.seek(EntryID(id));
+        let got = self.log.seek(EntryID(id as u64));
         self.agree("seek", got, want);
     }
 
@@ -285,8 +301,9 @@ impl Run {
             self.log = if self.random.one_in(2) {
                 Log::new(page, hold)
             } else {
-                let block = self.random.bytes(44);
-                Log::from_parts(block.try_into().unwrap(), page, hold)
+                let mut block = W::ZEROS;
+                block.as_mut().fill_with(|| self.random.next() as u8);
+                Log::from_parts(block, page, hold)
             };
         }
         let mode = Mode {
@@ -304,13 +321,15 @@ impl Run {
 
     /// The survey gives the IDs of the pages on flash.
     fn survey(&mut self) {
-        let mut want: Vec<u32> = self.model.page_ids();
-        let mut ids = [u32::MAX; 9];
+        let mut want: Vec<u64> = self.model.page_ids();
+        let other = W::from(u32::MAX);
+        let mut ids = [other; 9];
         let count = survey(self.sizes, &self.flash.volume, &mut ids).expect("room for each ID");
-        assert!(ids[count..].iter().all(|id| *id == u32::MAX));
+        assert!(ids[count..].iter().all(|id| *id == other));
         ids[..count].sort();
         want.sort();
-        assert_eq!(ids[..count], want, "the pages on flash");
+        let found: Vec<u64> = ids[..count].iter().map(|id| (*id).into()).collect();
+        assert_eq!(found, want, "the pages on flash");
         if let Some(short) = count.checked_sub(1) {
             let before = ids;
             let refused = survey(self.sizes, &self.flash.volume, &mut ids[..short]);
@@ -365,22 +384,26 @@ impl Run {
     }
 }
 
-#[test]
-fn random_lists_agree_with_the_model() {
+on_both_boards! {
+    random_lists_agree_with_the_model
+    a_request_stands_whatever_the_word
+}
+
+fn random_lists_agree_with_the_model<W: Word>() {
     let mut met: BTreeMap<String, u64> = BTreeMap::new();
     let mut laps = 0;
     for seed in 0..LISTS {
         let run = std::panic::catch_unwind(|| {
-            let mut run = Run::new(seed);
+            let mut run = Run::<W>::new(seed);
             run.restart(true);
             for _ in 0..EVENTS {
                 run.event();
             }
             run.restart(true);
             run.reads_back();
-            let length = run.flash.volume.len();
-            let laps = run.log.log_end().0 / length;
-            (run.met, laps)
+            let laps = run.log.log_end().0 as usize / run.flash.volume.len();
+            let before = run.from / run.flash.volume.len();
+            (run.met, laps.saturating_sub(before))
         });
         let Ok((found, round)) = run else {
             panic!("in the list of seed {seed}");
@@ -439,6 +462,7 @@ fn random_lists_agree_with_the_model() {
         "cut in an erase Blank",
         "read back",
         "read back, some entries",
+        "begun far on",
     ];
     for what in wanted {
         assert!(met.contains_key(what), "never met: {what}");
@@ -451,8 +475,7 @@ fn random_lists_agree_with_the_model() {
     assert!(!met.keys().any(|what| what.contains("Other")));
 }
 
-#[test]
-fn a_request_stands_whatever_the_word() {
+fn a_request_stands_whatever_the_word<W: Word>() {
     let sizes = Geometry {
         page_size: 32,
         page_count: 2,
@@ -460,7 +483,7 @@ fn a_request_stands_whatever_the_word() {
     };
     for word in [DriverWord::Ok, DriverWord::Busy, DriverWord::Fail] {
         let flash = Flash::new(sizes, 0xFF);
-        let mut log = Log::new([0; 32], [0; 32]);
+        let mut log = Log::<_, W>::new([0; 32], [0; 32]);
         assert_eq!(
             log.restart(sizes, Mode::default(), &flash.volume).answer,
             Answer::Ok

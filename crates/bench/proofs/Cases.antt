@@ -1,4 +1,6 @@
--- Document 01's starred cases in one joint proof: those of the engine and of restart, and the two that need a cut. P = 32, N = 4, circular, fresh.
+-- Document 01's starred cases in one joint proof: those of the engine and of restart, and the two that need a cut. P = 32, N = 4, circular, fresh; and the same with words of 8 bytes, P = 64.
+-- w is the width of a word.
+use Prim.Native.Nat.{ℕ, _*_}
 use mathlib.Core.Path.{_≡_, refl}
 use mathlib.Core.Bool.{true}
 use mathlib.Core.List.{List, [], _∷_}
@@ -26,33 +28,52 @@ use Rattle.events.specs.Event.{Event}
 use Rattle.bench.specs.World.{step}
 use Rattle.bench.specs.Promise.{run, start}
 
--- the sizes
-abbrev geometry : Geometry
-geometry = record { p = 32; n = 4; first = 0 }
+-- four pages of eight words
+abbrev geometry : ℕ → Geometry
+geometry w = record { p = 8 * w; n = 4; first = 0 }
 
 -- a restart with fresh buffers
-abbrev restarts : Event
-restarts = event.restart new erased true true (replicate 32 0) (replicate 32 0)
+abbrev restarts : ℕ → Event
+restarts w = event.restart new erased true true (replicate (8 * w) 0) (replicate (8 * w) 0)
+
+-- an append of five words
+abbrev appends : ℕ → Event
+appends w = event.append (replicate (5 * w) 7) (5 * w) ok
 
 -- "append 20", "Sync at A = 28", and a cut that leaves this
-abbrev events : Left → List Event
-events left = restarts ∷ event.append (replicate 20 7) 20 ok ∷ event.sync ok ∷ event.cut left erased ∷ restarts ∷ []
+abbrev events : ℕ → Left → List Event
+events w left = restarts w ∷ appends w ∷ event.sync ok ∷ event.cut left erased ∷ restarts w ∷ []
+
+-- a log at rest with these O and A
+abbrev rests : ℕ → ℕ → ℕ → Log
+rests w o a = atRest (geometry w) true true true o a
 
 -- the log at the end of a list, from a volume of 0xFF everywhere
-abbrev logAfter : List Event → Log
-logAfter es = run 4 geometry true (start (atRest geometry true true true 0 0) (blank 128) [] []) es .world .log
+abbrev logAfter : ℕ → List Event → Log
+logAfter w es = run w (geometry w) true (start (rests w 0 0) (blank (32 * w)) [] []) es .world .log
 
 pub record Starred : Type 0 where
   -- those of the engine, and with them those of restart
   engine : engine.Cases
   -- before the cut: A = 28
-  before : logAfter (restarts ∷ event.append (replicate 20 7) 20 ok ∷ []) .append ≡ 28
+  before : logAfter 4 (restarts 4 ∷ appends 4 ∷ []) .append ≡ 28
   -- "That sync cut blank: restart gives O = A = 4"
-  cut-blank : logAfter (events blanked) ≡ atRest geometry true true true 4 4
+  cut-blank : logAfter 4 (events 4 blanked) ≡ rests 4 4 4
   -- "new: A = 28"
-  cut-new : logAfter (events new) ≡ atRest geometry true true true 4 28
+  cut-new : logAfter 4 (events 4 new) ≡ rests 4 4 28
+
+-- the same with words of 8 bytes
+pub record Starred8 : Type 0 where
+  engine : engine.Cases8
+  before : logAfter 8 (restarts 8 ∷ appends 8 ∷ []) .append ≡ 56
+  cut-blank : logAfter 8 (events 8 blanked) ≡ rests 8 8 8
+  cut-new : logAfter 8 (events 8 new) ≡ rests 8 8 56
 
 -- all of them, by computation
 pub starred : Starred
 unfolding step restart restartPage restoredLog restoredPage recoveredId opens validIds header wordAt slotBytes walkFrom hop stops mayOpen shapeFits sizesFit stateFits gate unlessFree appendRefusal fitsPage appendRuns appendPage appendHold stored storedPage overwrite filled syncRuns syncPage flush flushedPage lostPage overwritten movedOldest movedRead inSlot putSlot
 starred = record { engine = engine.cases; before = refl; cut-blank = refl; cut-new = refl }
+
+pub starred-8 : Starred8
+unfolding step restart restartPage restoredLog restoredPage recoveredId opens validIds header wordAt slotBytes walkFrom hop stops mayOpen shapeFits sizesFit stateFits gate unlessFree appendRefusal fitsPage appendRuns appendPage appendHold stored storedPage overwrite filled syncRuns syncPage flush flushedPage lostPage overwritten movedOldest movedRead inSlot putSlot
+starred-8 = record { engine = engine.cases-8; before = refl; cut-blank = refl; cut-new = refl }

@@ -9,6 +9,7 @@ use borrow.Author.Tests.{le-leb, eq-eqb}
 use Rattle.page.specs.Sizes.{Sizes}
 use Rattle.log.specs.Log.{Geometry, Log}
 use Rattle.log.specs.Check.{sizesFit, shapeFits, stateFits}
+use Rattle.log.proofs.Checks.{fits-width}
 use Rattle.call.specs.Gate.{gate}
 use Rattle.bench.specs.World.{World}
 use Rattle.bench.specs.Book.{Book}
@@ -23,7 +24,7 @@ fits-sizes {w} g z h =
     let c = eq-eqb _ _ (z .page .divides) in
     let d = le-leb _ _ (z .some) in
     let e = le-leb _ _ (z .few) in
-    rw (a, b, c, d, e) (le-leb _ _ h)
+    rw (fits-width (z .page .width), a, b, c, d, e) (le-leb _ _ h)
 
 -- so do a volume and buffers
 pub fits-shape : {w : ℕ} (g : Geometry) (volume page hold : ℕ) → Sizes w (g .p) (g .n) → g .first ≤ 16_777_215

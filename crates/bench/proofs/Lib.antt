@@ -18,5 +18,6 @@ pub mod EraseStep
 pub mod CutStep
 pub mod RestartStep
 pub mod Theorem
+pub mod Boards
 pub mod Further
 pub mod Cases

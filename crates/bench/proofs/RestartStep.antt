@@ -57,7 +57,7 @@ module _ {w : ℕ} {g : Geometry} {circular : Bool} (x : World) (b : Book) (volu
       → Restarts w g circular (restartedWorld x volume (pageBy t) hold (answered t)) (restarted w g circular b (some (restartNumber (answered t)))) (restartNumber (answered t))
   by-shape false h = record { keeps = record { books = bk; powered = refl }; finds = λ e. absurd (omega arith) }
   by-shape true h =
-      let s = shape-fits (bk .sizes .page .width) g (length volume) (length page) (length hold) h in
+      let s = shape-fits w g (length volume) (length page) (length hold) h in
       let q : Restored w g circular read-client append-client volume page hold b = restored read-client append-client volume page hold b bk (s .buffer) (s .held) in
       let rest = restored-rests w g circular read-client append-client volume in
       record {

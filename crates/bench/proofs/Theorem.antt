@@ -197,10 +197,10 @@ promise {w} v g circular l volume page hold none-valid es clear = go (sizesFit w
 
     go : (t : Bool) → sizesFit w g ≡ t → Dec (length volume ≡ g .n * g .p) → AllPromised w g circular (start l volume page hold) es
     go true e (yes whole) =
-        let z = sizes-fit v g e in
+        let z = sizes-fit w g e in
         list-keeps (start l volume page hold) (start-inv circular l volume page hold (z .sizes) (z .first) whole none-valid) es clear
-    go true e (no d) = dead (λ page' hold'. unfit page' hold' (λ h. d (shape-fits v g (length volume) (length page') (length hold') h .whole)))
-    go false e d = dead (λ page' hold'. unfit page' hold' (λ h. let z : true ≡ false = sym (sizes-of v g (length volume) (length page') (length hold') h) ∙ e in true≢false z))
+    go true e (no d) = dead (λ page' hold'. unfit page' hold' (λ h. d (shape-fits w g (length volume) (length page') (length hold') h .whole)))
+    go false e d = dead (λ page' hold'. unfit page' hold' (λ h. let z : true ≡ false = sym (sizes-of w g (length volume) (length page') (length hold') h) ∙ e in true≢false z))
 
 -- a further restart after the list
 pub further : {w : ℕ} → Width w → (g : Geometry) (circular : Bool) (l : Log) (volume page hold : List ℕ) → NoHeader w g volume → (es : List Event)

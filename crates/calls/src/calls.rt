@@ -1,4 +1,4 @@
-// Calls on a log of P = 32, N = 4: document 01's cases and their neighbours. `names` has a line for each.
+// Calls on a log: document 01's cases and their neighbours. `names` has a line for each.
 use crate::outcome;
 use call::outcome::Driver;
 use log::state::Geometry;
@@ -6,12 +6,25 @@ use log::state::Log;
 use log::state::State;
 use page::id::EntryID;
 use say::build;
+use say::sizes;
+use say::sizes::count;
+use say::sizes::less;
+use say::sizes::words;
+use script::text;
 
 // A log with this state, these O, R and A, and this kept length.
-pub(crate) fn with(circular: bool, state: State, o: usize, r: usize, a: usize, n: usize) -> Log {
+pub(crate) fn with(
+    width: usize,
+    circular: bool,
+    state: State,
+    o: usize,
+    r: usize,
+    a: usize,
+    n: usize,
+) -> Log {
     Log {
         geometry: Geometry {
-            page_size: 32,
+            page_size: sizes::page_size(width),
             page_count: 4,
             first_page: 100,
         },
@@ -27,107 +40,170 @@ pub(crate) fn with(circular: bool, state: State, o: usize, r: usize, a: usize, n
 }
 
 // A log at rest.
-pub(crate) fn at(circular: bool, o: usize, r: usize, a: usize) -> Log {
-    with(circular, State::Idle, o, r, a, 0)
+pub(crate) fn at(width: usize, circular: bool, o: usize, r: usize, a: usize) -> Log {
+    with(width, circular, State::Idle, o, r, a, 0)
+}
+
+// A circular one that starts with page 0, with this A.
+pub(crate) fn from_start(width: usize, a: usize) -> Log {
+    let first = words(width, 1);
+    at(width, true, first, first, a)
 }
 
 // The calls, on an erased volume and buffers of zeros.
-pub(crate) fn append(names: &[u8], k: usize, log: Log, n: usize, word: Driver) -> Log {
-    let volume = [255u8; 128];
-    let mut page = [0u8; 32];
-    let mut hold = [0u8; 32];
-    let data = [7u8; 32];
+pub(crate) fn append(
+    width: usize,
+    names: &[u8],
+    k: usize,
+    log: Log,
+    n: usize,
+    word: Driver,
+) -> Log {
+    let volume = [255u8; 256];
+    let mut page = [0u8; 64];
+    let mut hold = [0u8; 64];
+    let data = [7u8; 64];
+    let p = sizes::page_size(width);
     outcome::line(
         names,
         k,
-        writing::append::append(log, &volume, &mut page, &mut hold, &data, n, word),
+        writing::append::append(
+            width,
+            log,
+            text::part(&volume, 0, sizes::volume_size(width)),
+            text::front(&mut page, p),
+            text::front(&mut hold, p),
+            text::part(&data, 0, p),
+            n,
+            word,
+        ),
     )
 }
 
-fn sync(names: &[u8], k: usize, log: Log, word: Driver) -> Log {
-    let volume = [255u8; 128];
-    let mut page = [0u8; 32];
-    let hold = [0u8; 32];
+fn sync(width: usize, names: &[u8], k: usize, log: Log, word: Driver) -> Log {
+    let volume = [255u8; 256];
+    let mut page = [0u8; 64];
+    let hold = [0u8; 64];
+    let p = sizes::page_size(width);
     outcome::line(
         names,
         k,
-        writing::sync::sync(log, &volume, &mut page, &hold, word),
+        writing::sync::sync(
+            width,
+            log,
+            text::part(&volume, 0, sizes::volume_size(width)),
+            text::front(&mut page, p),
+            text::part(&hold, 0, p),
+            word,
+        ),
     )
 }
 
-fn written(names: &[u8], k: usize, log: Log, good: bool) -> Log {
-    let volume = [255u8; 128];
-    let mut page = [0u8; 32];
-    let hold = [0u8; 32];
+fn written(width: usize, names: &[u8], k: usize, log: Log, good: bool) -> Log {
+    let volume = [255u8; 256];
+    let mut page = [0u8; 64];
+    let hold = [0u8; 64];
+    let p = sizes::page_size(width);
     outcome::line(
         names,
         k,
-        completing::write_complete::write_complete(log, &volume, &mut page, &hold, good),
+        completing::write_complete::write_complete(
+            width,
+            log,
+            text::part(&volume, 0, sizes::volume_size(width)),
+            text::front(&mut page, p),
+            text::part(&hold, 0, p),
+            good,
+        ),
     )
 }
 
-fn erase(names: &[u8], k: usize, log: Log, word: Driver) -> Log {
-    outcome::line(names, k, erasing::erase::erase(log, 128, 32, 32, word))
-}
-
-fn erased(names: &[u8], k: usize, log: Log, good: bool, word: Driver) -> Log {
-    let volume = [255u8; 128];
-    let mut page = [0u8; 32];
-    let hold = [0u8; 32];
+fn erase(width: usize, names: &[u8], k: usize, log: Log, word: Driver) -> Log {
+    let p = sizes::page_size(width);
     outcome::line(
         names,
         k,
-        erasing::erase::erase_complete(log, &volume, &mut page, &hold, good, word),
+        erasing::erase::erase(width, log, sizes::volume_size(width), p, p, word),
     )
 }
 
-pub(crate) fn seek(names: &[u8], k: usize, log: Log, id: usize) -> Log {
-    outcome::line(names, k, reading::seek::seek(log, 128, 32, 32, EntryID(id)))
-}
-
-pub(crate) fn deferred(names: &[u8], k: usize, log: Log) -> Log {
+fn erased(width: usize, names: &[u8], k: usize, log: Log, good: bool, word: Driver) -> Log {
+    let volume = [255u8; 256];
+    let mut page = [0u8; 64];
+    let hold = [0u8; 64];
+    let p = sizes::page_size(width);
     outcome::line(
         names,
         k,
-        reading::deferred::handle_deferred_call(log, 128, 32, 32),
+        erasing::erase::erase_complete(
+            width,
+            log,
+            text::part(&volume, 0, sizes::volume_size(width)),
+            text::front(&mut page, p),
+            text::part(&hold, 0, p),
+            good,
+            word,
+        ),
     )
 }
 
-// Page 0 with an entry of 20 bytes on flash, page 1 with one of 3 in the buffer.
-pub(crate) fn read(names: &[u8], k: usize, log: Log, n: usize) -> Log {
-    let mut volume = [255u8; 128];
-    build::page(&mut volume, 0, 0, 20);
-    let mut page = [0u8; 32];
-    build::page(&mut page, 0, 32, 3);
-    let hold = [0u8; 32];
-    let mut buffer = [0u8; 24];
+pub(crate) fn seek(width: usize, names: &[u8], k: usize, log: Log, id: usize) -> Log {
+    let p = sizes::page_size(width);
     outcome::line(
         names,
         k,
-        reading::read::read(log, &volume, &page, &hold, &mut buffer, n),
+        reading::seek::seek(width, log, sizes::volume_size(width), p, p, EntryID(id)),
+    )
+}
+
+pub(crate) fn deferred(width: usize, names: &[u8], k: usize, log: Log) -> Log {
+    let p = sizes::page_size(width);
+    outcome::line(
+        names,
+        k,
+        reading::deferred::handle_deferred_call(width, log, sizes::volume_size(width), p, p),
+    )
+}
+
+// Page 0 with an entry of P - 3w on flash, page 1 with one of 3 in the buffer, and a client's buffer of P - 2w.
+pub(crate) fn read(width: usize, names: &[u8], k: usize, log: Log, n: usize) -> Log {
+    let mut volume = [255u8; 256];
+    build::page(width, &mut volume, 0, 0, words(width, 5));
+    let mut page = [0u8; 64];
+    build::page(width, &mut page, 0, count(width, 1, 0, 0), 3);
+    let hold = [0u8; 64];
+    let mut buffer = [0u8; 48];
+    let p = sizes::page_size(width);
+    outcome::line(
+        names,
+        k,
+        reading::read::read(
+            width,
+            log,
+            text::part(&volume, 0, sizes::volume_size(width)),
+            text::part(&page, 0, p),
+            text::part(&hold, 0, p),
+            text::front(&mut buffer, words(width, 6)),
+            n,
+        ),
     )
 }
 
 // An append with a page buffer and a hold buffer of other lengths.
-fn lent(names: &[u8], k: usize, page_len: usize, hold_len: usize) {
-    if 33 < page_len {
-        return;
-    }
-    if 33 < hold_len {
-        return;
-    }
-    let volume = [255u8; 128];
-    let mut page = [0u8; 33];
-    let mut hold = [0u8; 33];
+fn lent(width: usize, names: &[u8], k: usize, page_len: usize, hold_len: usize) {
+    let volume = [255u8; 256];
+    let mut page = [0u8; 65];
+    let mut hold = [0u8; 65];
     let data = [7u8; 4];
     outcome::line(
         names,
         k,
         writing::append::append(
-            at(true, 4, 4, 4),
-            &volume,
-            &mut page[..page_len],
-            &mut hold[..hold_len],
+            width,
+            from_start(width, words(width, 1)),
+            text::part(&volume, 0, sizes::volume_size(width)),
+            text::front(&mut page, page_len),
+            text::front(&mut hold, hold_len),
             &data,
             4,
             Driver::OK,
@@ -135,100 +211,132 @@ fn lent(names: &[u8], k: usize, page_len: usize, hold_len: usize) {
     );
 }
 
-fn buffers(names: &[u8]) {
-    lent(names, 0, 32, 32);
-    lent(names, 1, 31, 32);
-    lent(names, 2, 33, 32);
-    lent(names, 3, 0, 32);
-    lent(names, 4, 32, 31);
-    lent(names, 5, 32, 33);
-    lent(names, 6, 32, 0);
+fn buffers(width: usize, names: &[u8]) {
+    let p = sizes::page_size(width);
+    lent(width, names, 0, p, p);
+    lent(width, names, 1, p - 1, p);
+    lent(width, names, 2, p + 1, p);
+    lent(width, names, 3, 0, p);
+    lent(width, names, 4, p, p - 1);
+    lent(width, names, 5, p, p + 1);
+    lent(width, names, 6, p, 0);
 }
 
-fn fill(names: &[u8]) {
-    let fresh = at(true, 4, 4, 4);
-    append(names, 0, fresh, 24, Driver::OK);
-    append(names, 1, fresh, 25, Driver::OK);
-    append(names, 2, fresh, 0, Driver::OK);
-    append(names, 3, fresh, 33, Driver::OK);
-    let five = append(names, 4, fresh, 5, Driver::OK);
-    let full = append(names, 5, five, 15, Driver::OK);
-    let waits = append(names, 6, full, 1, Driver::OK);
-    append(names, 7, waits, 1, Driver::OK);
-    written(names, 8, waits, true);
-    written(names, 9, waits, false);
-    append(names, 10, full, 1, Driver::BUSY);
-    append(names, 11, full, 1, Driver::FAIL);
+fn fill(width: usize, names: &[u8]) {
+    let fresh = from_start(width, words(width, 1));
+    append(width, names, 0, fresh, words(width, 6), Driver::OK);
+    append(width, names, 1, fresh, count(width, 0, 6, 1), Driver::OK);
+    append(width, names, 2, fresh, 0, Driver::OK);
+    append(width, names, 3, fresh, count(width, 1, 0, 1), Driver::OK);
+    let five = append(width, names, 4, fresh, 5, Driver::OK);
+    let full = append(width, names, 5, five, less(words(width, 5), 5), Driver::OK);
+    let waits = append(width, names, 6, full, 1, Driver::OK);
+    append(width, names, 7, waits, 1, Driver::OK);
+    written(width, names, 8, waits, true);
+    written(width, names, 9, waits, false);
+    append(width, names, 10, full, 1, Driver::BUSY);
+    append(width, names, 11, full, 1, Driver::FAIL);
 }
 
-fn syncs(names: &[u8]) {
-    let twenty = append(names, 0, at(true, 4, 4, 4), 20, Driver::OK);
-    let waits = append(names, 1, twenty, 1, Driver::OK);
-    written(names, 2, waits, true);
-    sync(names, 3, at(true, 4, 4, 4), Driver::OK);
-    let syncing = sync(names, 4, twenty, Driver::OK);
-    sync(names, 5, syncing, Driver::OK);
-    written(names, 6, syncing, true);
-    written(names, 7, syncing, false);
-    sync(names, 8, twenty, Driver::FAIL);
-    sync(names, 9, at(true, 4, 4, 145), Driver::OK);
-    let whole = sync(names, 10, at(true, 4, 4, 32), Driver::OK);
-    written(names, 11, whole, true);
-    written(names, 12, twenty, true);
+fn syncs(width: usize, names: &[u8]) {
+    let fresh = from_start(width, words(width, 1));
+    let nearly = append(width, names, 0, fresh, words(width, 5), Driver::OK);
+    let waits = append(width, names, 1, nearly, 1, Driver::OK);
+    written(width, names, 2, waits, true);
+    sync(width, names, 3, fresh, Driver::OK);
+    let syncing = sync(width, names, 4, nearly, Driver::OK);
+    sync(width, names, 5, syncing, Driver::OK);
+    written(width, names, 6, syncing, true);
+    written(width, names, 7, syncing, false);
+    sync(width, names, 8, nearly, Driver::FAIL);
+    sync(
+        width,
+        names,
+        9,
+        from_start(width, count(width, 4, 4, 1)),
+        Driver::OK,
+    );
+    let whole = sync(
+        width,
+        names,
+        10,
+        from_start(width, words(width, 8)),
+        Driver::OK,
+    );
+    written(width, names, 11, whole, true);
+    written(width, names, 12, nearly, true);
 }
 
-fn seeks(names: &[u8]) {
-    let log = at(true, 4, 4, 43);
-    let sought = seek(names, 0, log, 43);
-    deferred(names, 1, sought);
-    seek(names, 2, log, 44);
-    seek(names, 3, log, 3);
-    seek(names, 4, sought, 4);
-    deferred(names, 5, log);
+fn seeks(width: usize, names: &[u8]) {
+    let a = count(width, 1, 2, 3);
+    let log = from_start(width, a);
+    let sought = seek(width, names, 0, log, a);
+    deferred(width, names, 1, sought);
+    seek(width, names, 2, log, count(width, 1, 2, 4));
+    seek(width, names, 3, log, less(words(width, 1), 1));
+    seek(width, names, 4, sought, words(width, 1));
+    deferred(width, names, 5, log);
 }
 
-fn reads(names: &[u8]) {
-    let log = at(true, 4, 4, 43);
-    let one = read(names, 0, log, 24);
-    let idle = deferred(names, 1, one);
-    let two = read(names, 2, idle, 24);
-    let last = deferred(names, 3, two);
-    read(names, 4, last, 24);
-    read(names, 5, log, 19);
-    read(names, 6, log, 25);
-    read(names, 7, at(true, 4, 44, 43), 24);
-    read(names, 8, at(true, 4, 9, 43), 24);
+fn reads(width: usize, names: &[u8]) {
+    let a = count(width, 1, 2, 3);
+    let most = words(width, 6);
+    let first = words(width, 1);
+    let log = from_start(width, a);
+    let one = read(width, names, 0, log, most);
+    let idle = deferred(width, names, 1, one);
+    let two = read(width, names, 2, idle, most);
+    let last = deferred(width, names, 3, two);
+    read(width, names, 4, last, most);
+    read(width, names, 5, log, less(words(width, 5), 1));
+    read(width, names, 6, log, count(width, 0, 6, 1));
+    read(
+        width,
+        names,
+        7,
+        at(width, true, first, count(width, 1, 2, 4), a),
+        most,
+    );
+    read(
+        width,
+        names,
+        8,
+        at(width, true, first, count(width, 0, 2, 1), a),
+        most,
+    );
 }
 
-fn erases(names: &[u8]) {
-    let log = at(true, 4, 4, 43);
-    let starts = erase(names, 0, log, Driver::OK);
-    let next = erased(names, 1, starts, true, Driver::OK);
-    erased(names, 2, next, true, Driver::OK);
-    erased(names, 3, starts, false, Driver::OK);
-    erased(names, 4, starts, true, Driver::BUSY);
-    erased(names, 5, starts, true, Driver::FAIL);
-    erase(names, 6, log, Driver::BUSY);
-    erased(names, 7, log, true, Driver::OK);
+fn erases(width: usize, names: &[u8]) {
+    let log = from_start(width, count(width, 1, 2, 3));
+    let starts = erase(width, names, 0, log, Driver::OK);
+    let next = erased(width, names, 1, starts, true, Driver::OK);
+    erased(width, names, 2, next, true, Driver::OK);
+    erased(width, names, 3, starts, false, Driver::OK);
+    erased(width, names, 4, starts, true, Driver::BUSY);
+    erased(width, names, 5, starts, true, Driver::FAIL);
+    erase(width, names, 6, log, Driver::BUSY);
+    erased(width, names, 7, log, true, Driver::OK);
 }
 
-pub(crate) fn cases() {
+pub(crate) fn cases(width: usize) {
     buffers(
-        b"buffers of 32
-page buffer of 31
-page buffer of 33
+        width,
+        b"buffers of P
+page buffer of P - 1
+page buffer of P + 1
 no page buffer
-hold buffer of 31
-hold buffer of 33
+hold buffer of P - 1
+hold buffer of P + 1
 no hold buffer",
     );
     fill(
-        b"append 24
-append 25
+        width,
+        b"append P - 2w
+append P - 2w + 1
 append 0
-append 33 of 32
+append P + 1 of P
 append 5
-then 15
+then to the end
 then 1
 append while one waits
 the write completes
@@ -237,11 +345,12 @@ the driver is busy
 the driver fails",
     );
     syncs(
-        b"append 20
-20, then 1
-20, then 1, written
+        width,
+        b"append P - 3w
+P - 3w, then 1
+P - 3w, then 1, written
 fresh sync
-sync at 28
+sync at P - w
 sync while syncing
 sync written
 sync failed
@@ -252,6 +361,7 @@ full page written
 stray write completion",
     );
     seeks(
+        width,
         b"seek to A
 seek done
 seek to A + 1
@@ -260,6 +370,7 @@ seek while seeking
 deferred call in idle",
     );
     reads(
+        width,
         b"read
 read done
 read past the padding
@@ -271,6 +382,7 @@ R beyond A
 R in the middle of an entry",
     );
     erases(
+        width,
         b"erase
 page 0 erased
 page 1 erased

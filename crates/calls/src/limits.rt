@@ -3,140 +3,207 @@ use crate::calls;
 use call::outcome::Driver;
 use log::state::Log;
 use log::state::State;
-
-const LARGEST: usize = 18446744073709551615;
-
-const CEILING: usize = 1879048192;
+use say::sizes;
+use say::sizes::LARGEST;
+use say::sizes::count;
+use say::sizes::less;
+use say::sizes::words;
 
 // An append of one byte to a log with these O, R and A.
-fn ids(names: &[u8], k: usize, o: usize, r: usize, a: usize) {
-    calls::append(names, k, calls::at(true, o, r, a), 1, Driver::OK);
+fn ids(width: usize, names: &[u8], k: usize, o: usize, r: usize, a: usize) {
+    calls::append(
+        width,
+        names,
+        k,
+        calls::at(width, true, o, r, a),
+        1,
+        Driver::OK,
+    );
 }
 
-fn append_ids(names: &[u8]) {
-    ids(names, 0, 4, 4, 0);
-    ids(names, 1, 4, 4, 32);
-    ids(names, 2, 4, 4, 33);
-    ids(names, 3, 4, 4, 35);
-    ids(names, 4, 4, 4, 36);
-    ids(names, 5, CEILING - 28, CEILING - 28, CEILING);
-    ids(names, 6, 4, 4, CEILING + 1);
-    ids(names, 7, 4, 4, CEILING + 4);
-    ids(names, 8, 4, 4, LARGEST);
+// The same with only A another one.
+fn append_id(width: usize, names: &[u8], k: usize, a: usize) {
+    ids(width, names, k, words(width, 1), words(width, 1), a);
 }
 
-fn other_ids(names: &[u8]) {
-    ids(names, 0, 0, 4, 36);
-    ids(names, 1, 3, 4, 36);
-    ids(names, 2, 5, 5, 36);
-    ids(names, 3, 36, 36, 36);
-    ids(names, 4, 68, 4, 36);
-    ids(names, 5, CEILING + 4, 4, 36);
-    ids(names, 6, LARGEST, 4, 36);
-    ids(names, 7, 4, 0, 36);
-    ids(names, 8, 4, CEILING, 36);
-    ids(names, 9, 4, CEILING + 1, 36);
-    ids(names, 10, 4, LARGEST, 36);
+fn append_ids(width: usize, names: &[u8]) {
+    let c = sizes::ceiling(width);
+    let above = c + 1;
+    let in_page = c + words(width, 1);
+    let last = less(c, words(width, 7));
+    append_id(width, names, 0, 0);
+    append_id(width, names, 1, count(width, 1, 0, 0));
+    append_id(width, names, 2, count(width, 1, 0, 1));
+    append_id(width, names, 3, less(count(width, 1, 1, 0), 1));
+    append_id(width, names, 4, count(width, 1, 1, 0));
+    ids(width, names, 5, last, last, c);
+    append_id(width, names, 6, above);
+    append_id(width, names, 7, in_page);
+    append_id(width, names, 8, LARGEST);
+}
+
+// With only O, and with only R, another one.
+fn oldest_id(width: usize, names: &[u8], k: usize, o: usize) {
+    ids(width, names, k, o, words(width, 1), count(width, 1, 1, 0));
+}
+
+fn read_id(width: usize, names: &[u8], k: usize, r: usize) {
+    ids(width, names, k, words(width, 1), r, count(width, 1, 1, 0));
+}
+
+fn other_ids(width: usize, names: &[u8]) {
+    let c = sizes::ceiling(width);
+    let above = c + 1;
+    let in_page = c + words(width, 1);
+    let high = count(width, 0, 1, 1);
+    let a = count(width, 1, 1, 0);
+    oldest_id(width, names, 0, 0);
+    oldest_id(width, names, 1, less(words(width, 1), 1));
+    ids(width, names, 2, high, high, a);
+    ids(width, names, 3, a, a, a);
+    oldest_id(width, names, 4, count(width, 2, 1, 0));
+    oldest_id(width, names, 5, in_page);
+    oldest_id(width, names, 6, LARGEST);
+    read_id(width, names, 7, 0);
+    read_id(width, names, 8, c);
+    read_id(width, names, 9, above);
+    read_id(width, names, 10, LARGEST);
 }
 
 // The same to a log of other sizes.
-fn sizes(names: &[u8], k: usize, page_size: usize, page_count: usize, first_page: usize) {
-    let mut log = calls::at(true, 4, 4, 4);
-    log.geometry.page_size = page_size;
-    log.geometry.page_count = page_count;
+fn sized(width: usize, names: &[u8], k: usize, p: usize, n: usize, first_page: usize) {
+    let mut log = calls::from_start(width, words(width, 1));
+    log.geometry.page_size = p;
+    log.geometry.page_count = n;
     log.geometry.first_page = first_page;
-    calls::append(names, k, log, 1, Driver::OK);
+    calls::append(width, names, k, log, 1, Driver::OK);
 }
 
-fn geometry(names: &[u8]) {
-    sizes(names, 0, 0, 4, 100);
-    sizes(names, 1, 16, 8, 100);
-    sizes(names, 2, 64, 2, 100);
-    sizes(names, 3, LARGEST, 4, 100);
-    sizes(names, 4, 32, 0, 100);
-    sizes(names, 5, 32, 3, 100);
-    sizes(names, 6, 32, 5, 100);
-    sizes(names, 7, 32, LARGEST, 100);
-    sizes(names, 8, 32, 4, 0);
-    sizes(names, 9, 32, 4, 16777215);
-    sizes(names, 10, 32, 4, 16777216);
-    sizes(names, 11, 32, 4, LARGEST);
+fn geometry(width: usize, names: &[u8]) {
+    let p = sizes::page_size(width);
+    sized(width, names, 0, 0, 4, 100);
+    sized(width, names, 1, words(width, 4), 8, 100);
+    sized(width, names, 2, words(width, 16), 2, 100);
+    sized(width, names, 3, LARGEST, 4, 100);
+    sized(width, names, 4, p, 0, 100);
+    sized(width, names, 5, p, 3, 100);
+    sized(width, names, 6, p, 5, 100);
+    sized(width, names, 7, p, LARGEST, 100);
+    sized(width, names, 8, p, 4, 0);
+    sized(width, names, 9, p, 4, 16777215);
+    sized(width, names, 10, p, 4, 16777216);
+    sized(width, names, 11, p, 4, LARGEST);
 }
 
 // A log in this state, with this kept length.
-fn keeping(state: State, n: usize) -> Log {
-    calls::with(true, state, 4, 4, 36, n)
+fn with_kept(width: usize, state: State, n: usize) -> Log {
+    let first = words(width, 1);
+    calls::with(width, true, state, first, first, count(width, 1, 1, 0), n)
 }
 
-fn kept(names: &[u8]) {
-    calls::append(names, 0, keeping(State::Idle, 24), 1, Driver::OK);
-    calls::append(names, 1, keeping(State::Idle, 25), 1, Driver::OK);
-    calls::append(names, 2, keeping(State::Idle, LARGEST), 1, Driver::OK);
-    calls::append(names, 3, keeping(State::Append, 0), 1, Driver::OK);
-    calls::append(names, 4, keeping(State::Append, 1), 1, Driver::OK);
-    calls::append(names, 5, keeping(State::Append, 24), 1, Driver::OK);
-    calls::append(names, 6, keeping(State::Append, 25), 1, Driver::OK);
+// An append of one byte to it.
+fn keeping(width: usize, names: &[u8], k: usize, state: State, n: usize) {
+    let log = with_kept(width, state, n);
+    calls::append(width, names, k, log, 1, Driver::OK);
 }
 
-fn states(names: &[u8]) {
-    calls::append(names, 0, keeping(State::Read, 0), 1, Driver::OK);
-    calls::append(names, 1, keeping(State::Seek, 0), 1, Driver::OK);
-    calls::append(names, 2, keeping(State::Sync, 0), 1, Driver::OK);
-    calls::append(names, 3, keeping(State::Erase, 0), 1, Driver::OK);
-    calls::deferred(names, 4, keeping(State::Append, 1));
-    calls::deferred(names, 5, keeping(State::Sync, 0));
-    calls::deferred(names, 6, keeping(State::Erase, 0));
+fn kept(width: usize, names: &[u8]) {
+    let most = words(width, 6);
+    let more = count(width, 0, 6, 1);
+    keeping(width, names, 0, State::Idle, most);
+    keeping(width, names, 1, State::Idle, more);
+    keeping(width, names, 2, State::Idle, LARGEST);
+    keeping(width, names, 3, State::Append, 0);
+    keeping(width, names, 4, State::Append, 1);
+    keeping(width, names, 5, State::Append, most);
+    keeping(width, names, 6, State::Append, more);
 }
 
-fn clients(names: &[u8]) {
-    let mut log = calls::at(true, 4, 4, 43);
+fn states(width: usize, names: &[u8]) {
+    keeping(width, names, 0, State::Read, 0);
+    keeping(width, names, 1, State::Seek, 0);
+    keeping(width, names, 2, State::Sync, 0);
+    keeping(width, names, 3, State::Erase, 0);
+    calls::deferred(width, names, 4, with_kept(width, State::Append, 1));
+    calls::deferred(width, names, 5, with_kept(width, State::Sync, 0));
+    calls::deferred(width, names, 6, with_kept(width, State::Erase, 0));
+}
+
+fn clients(width: usize, names: &[u8]) {
+    let a = count(width, 1, 2, 3);
+    let mut log = calls::from_start(width, a);
     log.append_client = false;
-    calls::append(names, 0, log, 1, Driver::OK);
-    calls::seek(names, 1, log, 43);
+    calls::append(width, names, 0, log, 1, Driver::OK);
+    calls::seek(width, names, 1, log, a);
     log.append_client = true;
     log.read_client = false;
-    calls::append(names, 2, log, 1, Driver::OK);
-    calls::seek(names, 3, log, 43);
-    calls::read(names, 4, log, 24);
+    calls::append(width, names, 2, log, 1, Driver::OK);
+    calls::seek(width, names, 3, log, a);
+    calls::read(width, names, 4, log, words(width, 6));
 }
 
-fn lengths(names: &[u8]) {
-    let log = calls::at(true, 4, 4, 43);
-    calls::append(names, 0, log, 4294967291, Driver::OK);
-    calls::append(names, 1, log, 4294967292, Driver::OK);
-    calls::append(names, 2, log, 4294967296, Driver::OK);
-    calls::append(names, 3, log, LARGEST, Driver::OK);
-    calls::read(names, 4, log, 0);
-    calls::read(names, 5, log, 4294967291);
-    calls::read(names, 6, log, LARGEST);
-    calls::seek(names, 7, log, 0);
-    calls::seek(names, 8, log, LARGEST);
+fn lengths(width: usize, names: &[u8]) {
+    let largest = sizes::largest_word(width);
+    let longest = less(largest, words(width, 1));
+    let log = calls::from_start(width, count(width, 1, 2, 3));
+    calls::append(width, names, 0, log, longest, Driver::OK);
+    calls::append(
+        width,
+        names,
+        1,
+        log,
+        less(largest, less(words(width, 1), 1)),
+        Driver::OK,
+    );
+    calls::append(width, names, 2, log, 4294967296, Driver::OK);
+    calls::append(width, names, 3, log, LARGEST, Driver::OK);
+    calls::read(width, names, 4, log, 0);
+    calls::read(width, names, 5, log, longest);
+    calls::read(width, names, 6, log, LARGEST);
+    calls::seek(width, names, 7, log, 0);
+    calls::seek(width, names, 8, log, LARGEST);
 }
 
-fn plain(names: &[u8]) {
-    calls::append(names, 0, calls::at(false, 4, 4, 128), 1, Driver::OK);
-    calls::append(names, 1, calls::at(false, 4, 4, 100), 24, Driver::OK);
-    calls::append(names, 2, calls::at(false, 4, 4, 100), 23, Driver::OK);
-    calls::append(names, 3, calls::at(false, 4, 4, 96), 1, Driver::OK);
-    calls::append(names, 4, calls::at(false, 4, 4, CEILING), 1, Driver::OK);
+// An append of n bytes to a plain log with this A.
+fn plainly(width: usize, names: &[u8], k: usize, a: usize, n: usize) {
+    let first = words(width, 1);
+    calls::append(
+        width,
+        names,
+        k,
+        calls::at(width, false, first, first, a),
+        n,
+        Driver::OK,
+    );
 }
 
-pub(crate) fn cases() {
+fn plain(width: usize, names: &[u8]) {
+    let most = words(width, 6);
+    plainly(width, names, 0, count(width, 4, 0, 0), 1);
+    plainly(width, names, 1, count(width, 3, 1, 0), most);
+    plainly(width, names, 2, count(width, 3, 1, 0), less(most, 1));
+    plainly(width, names, 3, count(width, 3, 0, 0), 1);
+    plainly(width, names, 4, sizes::ceiling(width), 1);
+}
+
+pub(crate) fn cases(width: usize) {
     append_ids(
+        width,
         b"A = 0
 A at offset 0
 A at offset 1
-A at offset 3
-A at offset 4
+A at offset w - 1
+A at offset w
 A at the ceiling
 A above the ceiling
-A above the ceiling, at offset 4
+A above the ceiling, at offset w
 A the largest number",
     );
     other_ids(
+        width,
         b"O = 0
-O at offset 3
-O at offset 5
+O at offset w - 1
+O at offset w + 1
 O = A
 O above A
 O above the ceiling
@@ -147,9 +214,10 @@ R above the ceiling
 R the largest number",
     );
     geometry(
+        width,
         b"P = 0
-P = 16
-P = 64
+P of 4 words
+P of 16 words
 P the largest number
 N = 0
 N = 3
@@ -161,15 +229,17 @@ first page 16777216
 first page the largest number",
     );
     kept(
-        b"24 kept
-25 kept
+        width,
+        b"P - 2w kept
+P - 2w + 1 kept
 the largest number kept
 append, 0 kept
 append, 1 kept
-append, 24 kept
-append, 25 kept",
+append, P - 2w kept
+append, P - 2w + 1 kept",
     );
     states(
+        width,
         b"append in Read
 append in Seek
 append in Sync
@@ -179,6 +249,7 @@ deferred call in Sync
 deferred call in Erase",
     );
     clients(
+        width,
         b"append, no append client
 seek, no append client
 append, no read client
@@ -186,21 +257,23 @@ seek, no read client
 read, no read client",
     );
     lengths(
-        b"append 4294967291
-append 4294967292
+        width,
+        b"append the largest word less w
+append one byte more
 append 4294967296
 append the largest number
 read 0
-read 4294967291
+read the largest word less w
 read the largest number
 seek to 0
 seek to the largest number",
     );
     plain(
-        b"plain log at 128
-plain log at 100, 24
-plain log at 100, 23
-plain log at 96, 1
+        width,
+        b"plain log at L
+plain log at 3P + w, P - 2w
+plain log at 3P + w, P - 2w - 1
+plain log at 3P, 1
 plain log at the ceiling",
     );
 }

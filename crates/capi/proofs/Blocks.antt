@@ -21,29 +21,11 @@ use Rattle.log.specs.declared.state.Log as log
 use Rattle.call.specs.Outcome.{Outcome}
 use Rattle.capi.specs.declared.block.Loaded as loads
 use Rattle.capi.specs.declared.block.Loaded.the-variants as v
-use Rattle.capi.specs.Block.{reportKind, reportLost, reportResult, reportLength, requestKind, requestPage, at, withLog, withReport, withRequest, saved, sized, loaded, loadedOf}
+use Rattle.capi.specs.Block.{blockSize, reportKind, reportLost, reportResult, reportLength, requestKind, requestPage, at, withLog, withReport, withRequest, saved, sized, loaded, loadedOf}
 
 -- one byte stored
 pub put-byte : (block : List ℕ) (place b : ℕ) → place + 1 ≤ length block → set block place b ≡ overwrite block place (b ∷ [])
 put-byte block place b h = stores-overwrite block place (b ∷ []) h
-
--- a number's lowest byte and the others, with a multiple of 256 added
-low-byte : (x y k : ℕ) → x ≡ 256 * k + y → y % 256 ≡ x % 256
-low-byte x y k e = omega (arith, e)
-
-high-bytes : (x y k : ℕ) → x ≡ 256 * k + y → x / 256 ≡ k + y / 256
-high-bytes x y k e = omega (arith, e)
-
--- a word's bytes are those of the number's lowest 32 bits
-pub word-low : (n : ℕ) → wordBytes 4 (n % 4294967296) ≡ wordBytes 4 n
-word-low n =
-    let q : ℕ = n / 4294967296 in
-    let m : ℕ = n % 4294967296 in
-    let e : n ≡ 256 * (16777216 * q) + m = omega arith in
-    let f : n / 256 ≡ 256 * (65536 * q) + m / 256 = omega (arith, high-bytes n m (16777216 * q) e) in
-    let g : n / 256 / 256 ≡ 256 * (256 * q) + m / 256 / 256 = omega (arith, high-bytes (n / 256) (m / 256) (65536 * q) f) in
-    let h = high-bytes (n / 256 / 256) (m / 256 / 256) (256 * q) g in
-    rw (low-byte n m _ e, low-byte (n / 256) (m / 256) _ f, low-byte (n / 256 / 256) (m / 256 / 256) _ g, low-byte (n / 256 / 256 / 256) (m / 256 / 256 / 256) _ h)
 
 -- a product of two words fits 64 bits
 pub product-fits : (n p : ℕ) → n < 2 ^ 32 → p < 2 ^ 32 → n * p < 2 ^ 64
@@ -63,19 +45,20 @@ flag-four f h = go (leb 4 f) refl
     go false e = let k : f < 4 = leb-false 4 f e in sym (ne-eqb (f / 4 % 2) 1 (omega (arith, h, k)))
 
 -- a log, a report, a request and a log's sizes, byte by byte
-pub puts-log : (l : Log) (b0 : List ℕ) {k : ℕ} {b1 b2 b3 b4 b5 : List ℕ}
-    → k ≡ stateNumber (l .state) → b1 ≡ at 15 (k ∷ []) b0 → b2 ≡ at 16 (wordBytes 4 (l .oldest)) b1 → b3 ≡ at 20 (wordBytes 4 (l .read)) b2
-    → b4 ≡ at 24 (wordBytes 4 (l .append)) b3 → b5 ≡ at 28 (wordBytes 4 (l .kept)) b4 → b5 ≡ withLog l b0
-puts-log l b0 k a b c d e = rw (e, d, c, b, a, k)
+pub puts-log : (w : ℕ) (l : Log) (b0 : List ℕ) {k : ℕ} {b1 b2 b3 b4 b5 : List ℕ}
+    → k ≡ stateNumber (l .state) → b1 ≡ at 15 (k ∷ []) b0 → b2 ≡ at 16 (wordBytes w (l .oldest)) b1 → b3 ≡ at (16 + w) (wordBytes w (l .read)) b2
+    → b4 ≡ at (16 + 2 * w) (wordBytes w (l .append)) b3 → b5 ≡ at (16 + 3 * w) (wordBytes 4 (l .kept)) b4 → b5 ≡ withLog w l b0
+puts-log w l b0 k a b c d e = rw (e, d, c, b, a, k)
 
-pub puts-report : (r : Report) (b0 : List ℕ) {kind lost result n : ℕ} {b1 b2 b3 b4 : List ℕ}
+pub puts-report : (w : ℕ) (r : Report) (b0 : List ℕ) {kind lost result n : ℕ} {b1 b2 b3 b4 : List ℕ}
     → kind ≡ reportKind r → lost ≡ reportLost r → result ≡ reportResult r → n ≡ reportLength r
-    → b1 ≡ at 32 (kind ∷ []) b0 → b2 ≡ at 33 (lost ∷ []) b1 → b3 ≡ at 34 (result ∷ []) b2 → b4 ≡ at 36 (wordBytes 4 n) b3 → b4 ≡ withReport r b0
-puts-report r b0 kind lost result n a b c d = rw (d, c, b, a, kind, lost, result, n)
+    → b1 ≡ at (20 + 3 * w) (kind ∷ []) b0 → b2 ≡ at (21 + 3 * w) (lost ∷ []) b1 → b3 ≡ at (22 + 3 * w) (result ∷ []) b2
+    → b4 ≡ at (24 + 3 * w) (wordBytes 4 n) b3 → b4 ≡ withReport w r b0
+puts-report w r b0 kind lost result n a b c d = rw (d, c, b, a, kind, lost, result, n)
 
-pub puts-request : (q : Request) (b0 : List ℕ) {kind page : ℕ} {b1 b2 : List ℕ}
-    → kind ≡ requestKind q → page ≡ requestPage q → b1 ≡ at 35 (kind ∷ []) b0 → b2 ≡ at 40 (wordBytes 4 page) b1 → b2 ≡ withRequest q b0
-puts-request q b0 kind page a b = rw (b, a, kind, page)
+pub puts-request : (w : ℕ) (q : Request) (b0 : List ℕ) {kind page : ℕ} {b1 b2 : List ℕ}
+    → kind ≡ requestKind q → page ≡ requestPage q → b1 ≡ at (23 + 3 * w) (kind ∷ []) b0 → b2 ≡ at (28 + 3 * w) (wordBytes 4 page) b1 → b2 ≡ withRequest w q b0
+puts-request w q b0 kind page a b = rw (b, a, kind, page)
 
 pub puts-sizes : (g : Geometry) (circular read-client append-client : Bool) (b0 : List ℕ) {f1 f2 f3 : ℕ} {b1 b2 b3 b4 : List ℕ}
     → b1 ≡ at 0 (wordBytes 4 (g .p)) b0 → b2 ≡ at 4 (wordBytes 4 (g .n)) b1 → b3 ≡ at 8 (wordBytes 4 (g .first)) b2
@@ -85,12 +68,12 @@ unfolding sized
 puts-sizes g circular read-client append-client b0 a b c f1 f2 f3 d = rw (d, c, b, a, f1, f2, f3)
 
 -- what a call gave
-pub saves : (o : Outcome) (b0 : List ℕ) {b1 b2 b3 : List ℕ} → b1 ≡ withLog (o .log) b0 → b2 ≡ withReport (o .report) b1 → b3 ≡ withRequest (o .request) b2 → b3 ≡ saved o b0
+pub saves : (w : ℕ) (o : Outcome) (b0 : List ℕ) {b1 b2 b3 : List ℕ} → b1 ≡ withLog w (o .log) b0 → b2 ≡ withReport w (o .report) b1 → b3 ≡ withRequest w (o .request) b2 → b3 ≡ saved w o b0
 unfolding saved
-saves o b0 a b c = rw (c, b, a)
+saves w o b0 a b c = rw (c, b, a)
 
-pub saves-same : {o p : Outcome} {b0 s b1 : List ℕ} → o ≡ p → b0 ≡ s → b1 ≡ saved o b0 → b1 ≡ saved p s
-saves-same e q h = rw (h, e, q)
+pub saves-same : (w : ℕ) {o p : Outcome} {b0 s b1 : List ℕ} → o ≡ p → b0 ≡ s → b1 ≡ saved w o b0 → b1 ≡ saved w p s
+saves-same w e q h = rw (h, e, q)
 
 -- an answer's number is small
 pub number-small : (x : code.Answer) → number x ≤ 23
@@ -107,11 +90,11 @@ number-small a.STRAY = omega arith
 number-small a.LIMIT = omega arith
 
 -- what a function that has loaded a block knows of it
-pub holds-none : (block : List ℕ) {r : loads.Loaded} → loadedOf r ≡ loaded block → r ≡ v.Bad → loaded block ≡ none
-holds-none block e q = sym e ∙ ap loadedOf q
+pub holds-none : (w : ℕ) (block : List ℕ) {r : loads.Loaded} → loadedOf r ≡ loaded w block → r ≡ v.Bad → loaded w block ≡ none
+holds-none w block e q = sym e ∙ ap loadedOf q
 
-pub holds : (block : List ℕ) {r : loads.Loaded} {l : log.Log} → loadedOf r ≡ loaded block → r ≡ v.Log l → loaded block ≡ some (logOf l)
-holds block e q = sym e ∙ ap loadedOf q
+pub holds : (w : ℕ) (block : List ℕ) {r : loads.Loaded} {l : log.Log} → loadedOf r ≡ loaded w block → r ≡ v.Log l → loaded w block ≡ some (logOf l)
+holds w block e q = sym e ∙ ap loadedOf q
 
 -- tests that a log was let through by
 pub passes : (t : Bool) (x : Option Log) {l : Log} → pick t x none ≡ some l → (t ≡ true) × (x ≡ some l)
@@ -122,7 +105,7 @@ pub refuses-not : (t : Bool) (x : Option Log) {l : Log} → pick t none x ≡ so
 refuses-not true x {l} e = absurd (Option·none-ne-some l e)
 refuses-not false x e = (refl, e)
 
--- a block that holds a log has 44 bytes
-pub loaded-size : (block : List ℕ) {l : Log} → loaded block ≡ some l → length block ≡ 44
+-- a block that holds a log has its size
+pub loaded-size : (w : ℕ) (block : List ℕ) {l : Log} → loaded w block ≡ some l → length block ≡ blockSize w
 unfolding loaded
-loaded-size block e = eqb-true _ _ (passes (eqb (length block) 44) _ e .0)
+loaded-size w block e = eqb-true _ _ (passes (eqb (length block) (blockSize w)) _ e .0)

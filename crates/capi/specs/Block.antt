@@ -1,4 +1,5 @@
--- The block that a caller lends: a log, and what the last call gave. It has 44 bytes; words are 4 bytes, the lowest first.
+-- The block that a caller lends: a log, and what the last call gave. w is the width of the board's words.
+-- It has 32 + 3w bytes, 44 or 56: the three IDs are words of w bytes, the other numbers are 4 bytes each; the lowest byte comes first.
 use Prim.Native.Nat.{ℕ, _+_, _*_, _/_, _%_}
 use mathlib.Core.Bool.{Bool}
 use mathlib.Core.List.{List, [], _∷_}
@@ -15,35 +16,35 @@ use Rattle.call.specs.Outcome.{Outcome, Word, ok, busy, fail}
 use Rattle.capi.specs.declared.block.Loaded as code
 use Rattle.capi.specs.declared.block.Loaded.the-variants as c
 
-abbrev pub blockSize : ℕ
-blockSize = 44
+abbrev pub blockSize : ℕ → ℕ
+blockSize w = 32 + 3 * w
 
 -- the state of a number
 abbrev pub stateFrom : ℕ → State
 stateFrom k = pick (eqb k 0) Idle (pick (eqb k 1) Read (pick (eqb k 2) Seek (pick (eqb k 3) Append (pick (eqb k 4) Sync Erase))))
 
--- the log in a block: the sizes at 0, 4 and 8, the flags at 12, the state at 15, O at 16, R at 20, A at 24, the kept length at 28; 13 and 14 are not used.
+-- the log in a block: the sizes at 0, 4 and 8, the flags at 12, the state at 15, O at 16, then R, A and the kept length; 13 and 14 are not used.
 -- The flags are a sum: 1 where the log is circular, 2 where the read client is set, 4 where the append client is
-abbrev pub logAt : List ℕ → Log
-logAt block = record {
+abbrev pub logAt : ℕ → List ℕ → Log
+logAt w block = record {
   geometry = record { p = wordAt 4 block 0; n = wordAt 4 block 4; first = wordAt 4 block 8 };
   circular = eqb (getD block 12 0 % 2) 1;
   read-client = eqb (getD block 12 0 / 2 % 2) 1;
   append-client = eqb (getD block 12 0 / 4 % 2) 1;
   state = stateFrom (getD block 15 0);
-  oldest = wordAt 4 block 16;
-  read = wordAt 4 block 20;
-  append = wordAt 4 block 24;
-  kept = wordAt 4 block 28;
+  oldest = wordAt w block 16;
+  read = wordAt w block (16 + w);
+  append = wordAt w block (16 + 2 * w);
+  kept = wordAt 4 block (16 + 3 * w);
 }
 
 -- what is no log: another length, flags above 7, or a state above 5
-unfoldable pub loaded : List ℕ → Option Log
-loaded block =
-    pick (eqb (length block) blockSize)
+unfoldable pub loaded : ℕ → List ℕ → Option Log
+loaded w block =
+    pick (eqb (length block) (blockSize w))
     (pick (ltb 7 (getD block 12 0)) none
     (pick (ltb 5 (getD block 15 0)) none
-    (some (logAt block))))
+    (some (logAt w block))))
     none
 
 abbrev pub loadedOf : code.Loaded → Option Log
@@ -103,17 +104,26 @@ abbrev pub at : ℕ → List ℕ → List ℕ → List ℕ
 at place bytes block = overwrite block place bytes
 
 -- the block after a call: the state, the IDs and the kept length, the report and the request at their places
-abbrev pub withLog : Log → List ℕ → List ℕ
-withLog l block = at 28 (wordBytes 4 (l .kept)) (at 24 (wordBytes 4 (l .append)) (at 20 (wordBytes 4 (l .read)) (at 16 (wordBytes 4 (l .oldest)) (at 15 (stateNumber (l .state) ∷ []) block))))
+abbrev pub withLog : ℕ → Log → List ℕ → List ℕ
+withLog w l block =
+    at (16 + 3 * w) (wordBytes 4 (l .kept))
+    (at (16 + 2 * w) (wordBytes w (l .append))
+    (at (16 + w) (wordBytes w (l .read))
+    (at 16 (wordBytes w (l .oldest))
+    (at 15 (stateNumber (l .state) ∷ []) block))))
 
-abbrev pub withReport : Report → List ℕ → List ℕ
-withReport r block = at 36 (wordBytes 4 (reportLength r)) (at 34 (reportResult r ∷ []) (at 33 (reportLost r ∷ []) (at 32 (reportKind r ∷ []) block)))
+abbrev pub withReport : ℕ → Report → List ℕ → List ℕ
+withReport w r block =
+    at (24 + 3 * w) (wordBytes 4 (reportLength r))
+    (at (22 + 3 * w) (reportResult r ∷ [])
+    (at (21 + 3 * w) (reportLost r ∷ [])
+    (at (20 + 3 * w) (reportKind r ∷ []) block)))
 
-abbrev pub withRequest : Request → List ℕ → List ℕ
-withRequest q block = at 40 (wordBytes 4 (requestPage q)) (at 35 (requestKind q ∷ []) block)
+abbrev pub withRequest : ℕ → Request → List ℕ → List ℕ
+withRequest w q block = at (28 + 3 * w) (wordBytes 4 (requestPage q)) (at (23 + 3 * w) (requestKind q ∷ []) block)
 
-unfoldable pub saved : Outcome → List ℕ → List ℕ
-saved o block = withRequest (o .request) (withReport (o .report) (withLog (o .log) block))
+unfoldable pub saved : ℕ → Outcome → List ℕ → List ℕ
+saved w o block = withRequest w (o .request) (withReport w (o .report) (withLog w (o .log) block))
 
 -- the block's sizes and flags, which only a restart sets
 abbrev pub flags : Bool → Bool → Bool → ℕ

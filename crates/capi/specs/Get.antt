@@ -1,4 +1,4 @@
--- The getters, on a block: 0 where it holds no log.
+-- The getters, on a block: 0 where it holds no log. w is the width of the board's words.
 use Prim.Native.Nat.{ℕ}
 use mathlib.Core.List.{List}
 use mathlib.Core.Option.{Option, none, some}
@@ -11,19 +11,19 @@ abbrev pub orZero : (Log → ℕ) → Option Log → ℕ
 orZero f none = 0
 orZero f (some l) = f l
 
-abbrev pub oldestOf : List ℕ → ℕ
-oldestOf block = orZero (λ (l : Log). l .oldest) (loaded block)
+abbrev pub oldestOf : ℕ → List ℕ → ℕ
+oldestOf w block = orZero (λ (l : Log). l .oldest) (loaded w block)
 
-abbrev pub appendOf : List ℕ → ℕ
-appendOf block = orZero (λ (l : Log). l .append) (loaded block)
+abbrev pub appendOf : ℕ → List ℕ → ℕ
+appendOf w block = orZero (λ (l : Log). l .append) (loaded w block)
 
-abbrev pub readOf : List ℕ → ℕ
-readOf block = orZero (λ (l : Log). l .read) (loaded block)
+abbrev pub readOf : ℕ → List ℕ → ℕ
+readOf w block = orZero (λ (l : Log). l .read) (loaded w block)
 
--- "`get_size` is L − 4N"; 0 for sizes that SHAPE refuses
+-- "`get_size` is L − 4N", "capacity is L − 8N"; 0 for sizes that SHAPE refuses
 abbrev pub bytesOf : Answered → ℕ
 bytesOf (gives n) = n
 bytesOf (refuses a) = 0
 
-abbrev pub sizeOf : List ℕ → ℕ
-sizeOf block = orZero (λ (l : Log). bytesOf (capacity 4 (l .geometry))) (loaded block)
+abbrev pub sizeOf : ℕ → List ℕ → ℕ
+sizeOf w block = orZero (λ (l : Log). bytesOf (capacity w (l .geometry))) (loaded w block)

@@ -1,7 +1,8 @@
-// The calls, on a block.
+// The calls, on a block, for words of 4 and of 8 bytes.
 ghost use mathlib.Core.Path.{_≡_};
 ghost use mathlib.Core.Bool.{not};
 ghost use lib.Dec.{eqb};
+ghost use Rattle.page.specs.Sizes.{Width};
 ghost use Rattle.log.specs.Log.{Log};
 ghost use Rattle.call.specs.Outcome.{Outcome};
 ghost use Rattle.writing.specs.Append.{Appends};
@@ -22,8 +23,8 @@ use page::id::EntryID;
 const STATE: u32 = 21;
 
 // Appends the first `length` bytes of `data`.
-#[no_mangle]
-pub extern "C" fn punelovash_append(
+pub fn append(
+    width: usize,
     block: &mut [u8],
     volume: &[u8],
     page: &mut [u8],
@@ -32,121 +33,126 @@ pub extern "C" fn punelovash_append(
     length: usize,
     word: u8,
 ) -> u32
-    ensures { λ r. ⌜ Calls (now (block .entry)) (now (block .exit)) r ((now (page .exit) ≡ now (page .entry)) × (now (hold .exit) ≡ now (hold .entry))) (λ (l : Log) (o : Outcome). Appends 4 l (now (volume .entry)) (now (page .entry)) (now (hold .entry)) (now («data» .entry)) length (wordFrom word) o (now (page .exit)) (now (hold .exit))) ⌝ }
+    requires { ⌜ Width width ⌝ }
+    ensures { λ r. ⌜ Calls width (now (block .entry)) (now (block .exit)) r ((now (page .exit) ≡ now (page .entry)) × (now (hold .exit) ≡ now (hold .entry))) (λ (l : Log) (o : Outcome). Appends width l (now (volume .entry)) (now (page .entry)) (now (hold .entry)) (now («data» .entry)) length (wordFrom word) o (now (page .exit)) (now (hold .exit))) ⌝ }
 {
-    match block::load(block) {
+    match block::load(width, block) {
         Loaded::Bad => STATE,
         Loaded::Log(log) => {
             let said = numbers::word_from(word);
-            let given = writing::append::append(log, volume, page, hold, data, length, said);
-            block::save(given, block)
+            let given = writing::append::append(width, log, volume, page, hold, data, length, said);
+            block::save(width, given, block)
         }
     }
 }
 
 // Reads the next entry, of at most `length` bytes, into `buffer`. Of the hold buffer a read looks at the length alone, which has to be the page buffer's: the page buffer stands in for it.
-#[no_mangle]
-pub extern "C" fn punelovash_read<'a>(
+pub fn read<'a>(
+    width: usize,
     block: &mut [u8],
     volume: &'a [u8],
     page: &'a [u8],
     buffer: &mut [u8],
     length: usize,
 ) -> u32
-    ensures { λ r. ⌜ Calls (now (block .entry)) (now (block .exit)) r (now (buffer .exit) ≡ now (buffer .entry)) (λ (l : Log) (o : Outcome). Reads 4 l (now (volume .entry)) (now (page .entry)) (now (page .entry)) (now (buffer .entry)) length o (now (buffer .exit))) ⌝ }
+    requires { ⌜ Width width ⌝ }
+    ensures { λ r. ⌜ Calls width (now (block .entry)) (now (block .exit)) r (now (buffer .exit) ≡ now (buffer .entry)) (λ (l : Log) (o : Outcome). Reads width l (now (volume .entry)) (now (page .entry)) (now (page .entry)) (now (buffer .entry)) length o (now (buffer .exit))) ⌝ }
 {
-    match block::load(block) {
+    match block::load(width, block) {
         Loaded::Bad => STATE,
         Loaded::Log(log) => {
-            let given = reading::read::read(log, volume, page, page, buffer, length);
-            block::save(given, block)
+            let given = reading::read::read(width, log, volume, page, page, buffer, length);
+            block::save(width, given, block)
         }
     }
 }
 
 // The next entry to read is the one at `entry_id`. Only sizes are looked at, so that nothing but the block is lent.
-#[no_mangle]
-pub extern "C" fn punelovash_seek(block: &mut [u8], entry_id: usize) -> u32
-    ensures { λ r. ⌜ Calls (now (block .entry)) (now (block .exit)) r (Unit {0}) (λ (l : Log) (o : Outcome). o ≡ seeking.seek 4 l (volumeLength l) (l .geometry .p) (l .geometry .p) «entry_id») ⌝ }
+pub fn seek(width: usize, block: &mut [u8], entry_id: usize) -> u32
+    requires { ⌜ Width width ⌝ }
+    ensures { λ r. ⌜ Calls width (now (block .entry)) (now (block .exit)) r (Unit {0}) (λ (l : Log) (o : Outcome). o ≡ seeking.seek width l (volumeLength l) (l .geometry .p) (l .geometry .p) «entry_id») ⌝ }
 {
-    match block::load(block) {
+    match block::load(width, block) {
         Loaded::Bad => STATE,
         Loaded::Log(log) => {
             let p = log.geometry.page_size;
             let volume_len = block::volume_length(log);
-            let given = reading::seek::seek(log, volume_len, p, p, EntryID(entry_id));
-            block::save(given, block)
+            let given = reading::seek::seek(width, log, volume_len, p, p, EntryID(entry_id));
+            block::save(width, given, block)
         }
     }
 }
 
 // Writes the page buffer to flash.
-#[no_mangle]
-pub extern "C" fn punelovash_sync(
+pub fn sync(
+    width: usize,
     block: &mut [u8],
     volume: &[u8],
     page: &mut [u8],
     hold: &[u8],
     word: u8,
 ) -> u32
-    ensures { λ r. ⌜ Calls (now (block .entry)) (now (block .exit)) r (now (page .exit) ≡ now (page .entry)) (λ (l : Log) (o : Outcome). Syncs 4 l (now (volume .entry)) (now (page .entry)) (now (hold .entry)) (wordFrom word) o (now (page .exit))) ⌝ }
+    requires { ⌜ Width width ⌝ }
+    ensures { λ r. ⌜ Calls width (now (block .entry)) (now (block .exit)) r (now (page .exit) ≡ now (page .entry)) (λ (l : Log) (o : Outcome). Syncs width l (now (volume .entry)) (now (page .entry)) (now (hold .entry)) (wordFrom word) o (now (page .exit))) ⌝ }
 {
-    match block::load(block) {
+    match block::load(width, block) {
         Loaded::Bad => STATE,
         Loaded::Log(log) => {
             let said = numbers::word_from(word);
-            let given = writing::sync::sync(log, volume, page, hold, said);
-            block::save(given, block)
+            let given = writing::sync::sync(width, log, volume, page, hold, said);
+            block::save(width, given, block)
         }
     }
 }
 
 // Erases the log. Only sizes are looked at, so that nothing but the block is lent.
-#[no_mangle]
-pub extern "C" fn punelovash_erase(block: &mut [u8], word: u8) -> u32
-    ensures { λ r. ⌜ Calls (now (block .entry)) (now (block .exit)) r (Unit {0}) (λ (l : Log) (o : Outcome). o ≡ eraseCall 4 l (volumeLength l) (l .geometry .p) (l .geometry .p) (wordFrom word)) ⌝ }
+pub fn erase(width: usize, block: &mut [u8], word: u8) -> u32
+    requires { ⌜ Width width ⌝ }
+    ensures { λ r. ⌜ Calls width (now (block .entry)) (now (block .exit)) r (Unit {0}) (λ (l : Log) (o : Outcome). o ≡ eraseCall width l (volumeLength l) (l .geometry .p) (l .geometry .p) (wordFrom word)) ⌝ }
 {
-    match block::load(block) {
+    match block::load(width, block) {
         Loaded::Bad => STATE,
         Loaded::Log(log) => {
             let said = numbers::word_from(word);
             let p = log.geometry.page_size;
             let volume_len = block::volume_length(log);
-            let given = erasing::erase::erase(log, volume_len, p, p, said);
-            block::save(given, block)
+            let given = erasing::erase::erase(width, log, volume_len, p, p, said);
+            block::save(width, given, block)
         }
     }
 }
 
 // The flash has completed a write; `good` is 0 where it failed.
-#[no_mangle]
-pub extern "C" fn punelovash_write_complete(
+pub fn write_complete(
+    width: usize,
     block: &mut [u8],
     volume: &[u8],
     page: &mut [u8],
     hold: &[u8],
     good: u8,
 ) -> u32
-    ensures { λ r. ⌜ Calls (now (block .entry)) (now (block .exit)) r (now (page .exit) ≡ now (page .entry)) (λ (l : Log) (o : Outcome). WriteCompletes 4 l (now (volume .entry)) (now (page .entry)) (now (hold .entry)) (not (eqb good 0)) o (now (page .exit))) ⌝ }
+    requires { ⌜ Width width ⌝ }
+    ensures { λ r. ⌜ Calls width (now (block .entry)) (now (block .exit)) r (now (page .exit) ≡ now (page .entry)) (λ (l : Log) (o : Outcome). WriteCompletes width l (now (volume .entry)) (now (page .entry)) (now (hold .entry)) (not (eqb good 0)) o (now (page .exit))) ⌝ }
 {
-    match block::load(block) {
+    match block::load(width, block) {
         Loaded::Bad => STATE,
         Loaded::Log(log) => {
             let given = completing::write_complete::write_complete(
+                width,
                 log,
                 volume,
                 page,
                 hold,
                 good != 0,
             );
-            block::save(given, block)
+            block::save(width, given, block)
         }
     }
 }
 
 // The flash has completed an erase; `good` is 0 where it failed.
-#[no_mangle]
-pub extern "C" fn punelovash_erase_complete(
+pub fn erase_complete(
+    width: usize,
     block: &mut [u8],
     volume: &[u8],
     page: &mut [u8],
@@ -154,30 +160,39 @@ pub extern "C" fn punelovash_erase_complete(
     good: u8,
     word: u8,
 ) -> u32
-    ensures { λ r. ⌜ Calls (now (block .entry)) (now (block .exit)) r (now (page .exit) ≡ now (page .entry)) (λ (l : Log) (o : Outcome). EraseCompletes 4 l (now (volume .entry)) (now (page .entry)) (now (hold .entry)) (not (eqb good 0)) (wordFrom word) o (now (page .exit))) ⌝ }
+    requires { ⌜ Width width ⌝ }
+    ensures { λ r. ⌜ Calls width (now (block .entry)) (now (block .exit)) r (now (page .exit) ≡ now (page .entry)) (λ (l : Log) (o : Outcome). EraseCompletes width l (now (volume .entry)) (now (page .entry)) (now (hold .entry)) (not (eqb good 0)) (wordFrom word) o (now (page .exit))) ⌝ }
 {
-    match block::load(block) {
+    match block::load(width, block) {
         Loaded::Bad => STATE,
         Loaded::Log(log) => {
             let said = numbers::word_from(word);
-            let given = erasing::erase::erase_complete(log, volume, page, hold, good != 0, said);
-            block::save(given, block)
+            let given = erasing::erase::erase_complete(
+                width,
+                log,
+                volume,
+                page,
+                hold,
+                good != 0,
+                said,
+            );
+            block::save(width, given, block)
         }
     }
 }
 
 // The deferred call, which reports a read or a seek. Only sizes are looked at, so that nothing but the block is lent.
-#[no_mangle]
-pub extern "C" fn punelovash_deferred_call(block: &mut [u8]) -> u32
-    ensures { λ r. ⌜ Calls (now (block .entry)) (now (block .exit)) r (Unit {0}) (λ (l : Log) (o : Outcome). o ≡ deferring.deferred 4 l (volumeLength l) (l .geometry .p) (l .geometry .p)) ⌝ }
+pub fn deferred_call(width: usize, block: &mut [u8]) -> u32
+    requires { ⌜ Width width ⌝ }
+    ensures { λ r. ⌜ Calls width (now (block .entry)) (now (block .exit)) r (Unit {0}) (λ (l : Log) (o : Outcome). o ≡ deferring.deferred width l (volumeLength l) (l .geometry .p) (l .geometry .p)) ⌝ }
 {
-    match block::load(block) {
+    match block::load(width, block) {
         Loaded::Bad => STATE,
         Loaded::Log(log) => {
             let p = log.geometry.page_size;
             let volume_len = block::volume_length(log);
-            let given = reading::deferred::handle_deferred_call(log, volume_len, p, p);
-            block::save(given, block)
+            let given = reading::deferred::handle_deferred_call(width, log, volume_len, p, p);
+            block::save(width, given, block)
         }
     }
 }

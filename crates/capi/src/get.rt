@@ -1,5 +1,6 @@
 // The getters, on a block. A block that holds no log has 0 for each.
 ghost use mathlib.Core.Path.{_≡_};
+ghost use Rattle.page.specs.Sizes.{Width};
 ghost use Rattle.capi.specs.Get.{oldestOf, appendOf, readOf, sizeOf};
 use crate::block;
 use crate::block::Loaded;
@@ -7,46 +8,46 @@ use log::get;
 use log::get::Capacity;
 
 // The ID of the oldest entry.
-#[no_mangle]
-pub extern "C" fn punelovash_log_start(block: &[u8]) -> usize
-    ensures { λ r. ⌜ r ≡ oldestOf (now (block .entry)) ⌝ }
+pub fn log_start(width: usize, block: &[u8]) -> usize
+    requires { ⌜ Width width ⌝ }
+    ensures { λ r. ⌜ r ≡ oldestOf width (now (block .entry)) ⌝ }
 {
-    match block::load(block) {
+    match block::load(width, block) {
         Loaded::Bad => 0,
         Loaded::Log(log) => get::log_start(log).0,
     }
 }
 
 // The append ID: that of the next entry, where it fits in the page.
-#[no_mangle]
-pub extern "C" fn punelovash_log_end(block: &[u8]) -> usize
-    ensures { λ r. ⌜ r ≡ appendOf (now (block .entry)) ⌝ }
+pub fn log_end(width: usize, block: &[u8]) -> usize
+    requires { ⌜ Width width ⌝ }
+    ensures { λ r. ⌜ r ≡ appendOf width (now (block .entry)) ⌝ }
 {
-    match block::load(block) {
+    match block::load(width, block) {
         Loaded::Bad => 0,
         Loaded::Log(log) => get::log_end(log).0,
     }
 }
 
 // The ID of the next entry to read.
-#[no_mangle]
-pub extern "C" fn punelovash_next_read_entry_id(block: &[u8]) -> usize
-    ensures { λ r. ⌜ r ≡ readOf (now (block .entry)) ⌝ }
+pub fn next_read_entry_id(width: usize, block: &[u8]) -> usize
+    requires { ⌜ Width width ⌝ }
+    ensures { λ r. ⌜ r ≡ readOf width (now (block .entry)) ⌝ }
 {
-    match block::load(block) {
+    match block::load(width, block) {
         Loaded::Bad => 0,
         Loaded::Log(log) => get::next_read_entry_id(log).0,
     }
 }
 
 // The bytes of the volume without its page headers; 0 for sizes that SHAPE refuses.
-#[no_mangle]
-pub extern "C" fn punelovash_get_size(block: &[u8]) -> usize
-    ensures { λ r. ⌜ r ≡ sizeOf (now (block .entry)) ⌝ }
+pub fn get_size(width: usize, block: &[u8]) -> usize
+    requires { ⌜ Width width ⌝ }
+    ensures { λ r. ⌜ r ≡ sizeOf width (now (block .entry)) ⌝ }
 {
-    match block::load(block) {
+    match block::load(width, block) {
         Loaded::Bad => 0,
-        Loaded::Log(log) => match get::get_size(log) {
+        Loaded::Log(log) => match get::get_size(width, log) {
             Capacity::Bytes(bytes) => bytes,
             Capacity::Shape => 0,
         },

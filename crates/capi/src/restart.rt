@@ -2,11 +2,11 @@
 ghost use mathlib.Core.Path.{_≡_};
 ghost use mathlib.Core.Bool.{not};
 ghost use lib.Dec.{eqb};
+ghost use Rattle.page.specs.Sizes.{Width};
 ghost use Rattle.log.specs.Log.{logOf};
 ghost use Rattle.call.specs.Outcome.{outcomeOf};
 ghost use Rattle.capi.specs.Call.{restarted, RestartsBlock};
 use crate::block;
-use crate::block::BLOCK_SIZE;
 use call::outcome::Outcome;
 use log::answer::Answer;
 use log::answer::Report;
@@ -28,8 +28,8 @@ fn given(log: Log) -> Outcome
 }
 
 // Restarts the log on a volume. Flags are 0 or not.
-#[no_mangle]
-pub extern "C" fn punelovash_restart(
+pub fn restart(
+    width: usize,
     block: &mut [u8],
     page_size: u32,
     page_count: u32,
@@ -41,9 +41,10 @@ pub extern "C" fn punelovash_restart(
     page: &mut [u8],
     hold: &[u8],
 ) -> u32
-    ensures { λ r. ⌜ RestartsBlock (record { p = «page_size»; n = «page_count»; first = «first_page» }) (not (eqb circular 0)) (not (eqb «read_client» 0)) (not (eqb «append_client» 0)) (now (block .entry)) (now (block .exit)) (now (volume .entry)) (now (page .entry)) (now (page .exit)) (now (hold .entry)) r ⌝ }
+    requires { ⌜ Width width ⌝ }
+    ensures { λ r. ⌜ RestartsBlock width (record { p = «page_size»; n = «page_count»; first = «first_page» }) (not (eqb circular 0)) (not (eqb «read_client» 0)) (not (eqb «append_client» 0)) (now (block .entry)) (now (block .exit)) (now (volume .entry)) (now (page .entry)) (now (page .exit)) (now (hold .entry)) r ⌝ }
 {
-    if block.len() != BLOCK_SIZE {
+    if block.len() != block::block_size(width) {
         return 21;
     }
     let geometry = Geometry {
@@ -54,11 +55,11 @@ pub extern "C" fn punelovash_restart(
     let circles = circular != 0;
     let reads = read_client != 0;
     let appends = append_client != 0;
-    match recovery::restart::restart(geometry, circles, reads, appends, volume, page, hold) {
+    match recovery::restart::restart(width, geometry, circles, reads, appends, volume, page, hold) {
         Restarted::Shape => 20,
         Restarted::Log(log) => {
             block::save_sizes(geometry, circles, reads, appends, block);
-            block::save(given(log), block)
+            block::save(width, given(log), block)
         }
     }
 }

@@ -1,7 +1,22 @@
--- The sizes of the cases: P = 32, N = 4.
-use mathlib.Core.Path.{refl}
+-- The sizes of the cases: pages of 8 words, volumes of 4 pages.
+use Prim.Native.Nat.{ℕ, _*_, _%_}
+use mathlib.Core.Path.{_≡_, refl}
+use mathlib.Core.List.{List}
 use native.Mathlib.Omega.{arith}
-use Rattle.page.specs.Sizes.{Sizes, four}
+use lib.ListN.{length}
+use Rattle.page.specs.Sizes.{Width, Sizes}
+use Rattle.page.proofs.Kit.{by-width}
+use Rattle.lookup.specs.Held.{Lent}
+use Rattle.lookup.proofs.Helds.{lent}
 
-pub sizes : Sizes 4 32 4
-sizes = record { page = record { width = four; least = omega arith; most = omega arith; divides = refl }; some = omega arith; few = omega arith }
+pub sizes : {w : ℕ} → Width w → Sizes w (8 * w) 4
+sizes v =
+    record {
+      page = record { width = v; least = omega arith; most = omega arith; divides = by-width (λ (w : ℕ). 4096 % (8 * w) ≡ 0) v refl refl };
+      some = omega arith;
+      few = omega arith;
+    }
+
+-- a volume and a page buffer of these sizes
+pub lent-here : {w : ℕ} → Width w → (volume page : List ℕ) → length volume ≡ 4 * (8 * w) → length page ≡ 8 * w → Lent (8 * w) volume page
+lent-here v volume page whole one = lent (sizes v) volume page whole one (omega arith)

@@ -1,26 +1,40 @@
-// The bytes at a position, the next entry and its length: P = 32, N = 4, the append ID in page 1.
-ghost use Prim.Native.Nat.{_<_, _≤_};
-ghost use Rattle.page.specs.Sizes.{ceiling};
-ghost use Rattle.lookup.specs.Held.{Lent};
+// The bytes at a position, the next entry and its length, with the append ID in page 1.
 use lookup::held::EntryLength;
 use lookup::held::Place;
 use page::id::EntryID;
 use say::build;
 use say::print;
+use say::sizes;
+use say::sizes::count;
+use say::sizes::less;
+use say::sizes::words;
+use script::text;
 
 // Where reading from an ID goes on, and the length of the entry there.
-fn next<'a>(volume: &'a [u8], buffer: &'a [u8], a: usize, r: usize)
-    requires { ⌜ Lent 32 (now volume) (now buffer) × (0 < a) × (r ≤ ceiling 4) ⌝ }
-{
+fn next<'a>(width: usize, volume: &'a [u8], buffer: &'a [u8], a: usize, r: usize) {
+    let w = sizes::board(width);
+    let p = 8 * w;
+    if volume.len() != 4 * p {
+        return;
+    }
+    if buffer.len() != p {
+        return;
+    }
+    if a == 0 {
+        return;
+    }
+    if 20000 < r {
+        return;
+    }
     print::label(b"append ID, read ID, place, length", 0);
     print::number(a);
     print::number(r);
-    match lookup::held::get_next_entry(volume, buffer, 32, EntryID(a), EntryID(r)) {
+    match lookup::held::get_next_entry(w, volume, buffer, p, EntryID(a), EntryID(r)) {
         Place::End => print::word(b"end"),
         Place::At(id) => {
             print::number(id.0);
-            let rest = lookup::held::get_rest(volume, buffer, 32, EntryID(a), id);
-            match lookup::held::read_entry_header(rest, 32) {
+            let rest = lookup::held::get_rest(volume, buffer, p, EntryID(a), id);
+            match lookup::held::read_entry_header(w, rest, p) {
                 EntryLength::Bad => print::word(b"bad"),
                 EntryLength::Is(n) => print::number(n),
             }
@@ -29,41 +43,57 @@ fn next<'a>(volume: &'a [u8], buffer: &'a [u8], a: usize, r: usize)
     print::end();
 }
 
-fn byte<'a>(volume: &'a [u8], buffer: &'a [u8], a: usize, pos: usize)
-    requires { ⌜ Lent 32 (now volume) (now buffer) × (0 < a) ⌝ }
-{
+fn byte<'a>(width: usize, volume: &'a [u8], buffer: &'a [u8], a: usize, pos: usize) {
+    let w = sizes::board(width);
+    let p = 8 * w;
+    if volume.len() != 4 * p {
+        return;
+    }
+    if buffer.len() != p {
+        return;
+    }
+    if a == 0 {
+        return;
+    }
     print::label(b"append ID, position, byte", 0);
     print::number(a);
     print::number(pos);
-    let b = lookup::held::get_byte(volume, buffer, 32, EntryID(a), EntryID(pos));
+    let b = lookup::held::get_byte(volume, buffer, p, EntryID(a), EntryID(pos));
     print::number(b as usize);
     print::end();
 }
 
-fn looks<'a>(volume: &'a [u8], buffer: &'a [u8])
-    requires { ⌜ Lent 32 (now volume) (now buffer) ⌝ }
-{
-    byte(volume, buffer, 43, 4);
-    byte(volume, buffer, 43, 36);
-    byte(volume, buffer, 64, 36);
-    byte(volume, buffer, 32, 4);
-    next(volume, buffer, 43, 0);
-    next(volume, buffer, 43, 4);
-    next(volume, buffer, 43, 28);
-    next(volume, buffer, 43, 43);
-    next(volume, buffer, 64, 43);
-    next(volume, buffer, 64, 64);
-    next(volume, buffer, 64, 8);
-    next(volume, buffer, 64, 62);
+// `two` is the start of page 2, where page 1 ends.
+fn looks<'a>(width: usize, volume: &'a [u8], buffer: &'a [u8]) {
+    let first = count(width, 0, 1, 0);
+    let second = count(width, 1, 1, 0);
+    let middle = count(width, 1, 2, 3);
+    let two = count(width, 2, 0, 0);
+    byte(width, volume, buffer, middle, first);
+    byte(width, volume, buffer, middle, second);
+    byte(width, volume, buffer, two, second);
+    byte(width, volume, buffer, count(width, 1, 0, 0), first);
+    next(width, volume, buffer, middle, 0);
+    next(width, volume, buffer, middle, first);
+    next(width, volume, buffer, middle, words(width, 7));
+    next(width, volume, buffer, middle, middle);
+    next(width, volume, buffer, two, middle);
+    next(width, volume, buffer, two, two);
+    next(width, volume, buffer, two, words(width, 2));
+    next(width, volume, buffer, two, less(two, 2));
 }
 
-// Page 0 with an entry of 20 on flash; page 1 with entries of 3 and 17 in the buffer.
-pub(crate) fn cases() {
-    let mut volume = [255u8; 128];
-    build::page(&mut volume, 0, 0, 20);
-    let mut buffer = [0u8; 32];
-    build::header(&mut buffer, 32);
-    let at = build::sevens(&mut buffer, 4, 3);
-    build::sevens(&mut buffer, at, 17);
-    looks(&volume, &buffer);
+// Page 0 with an entry of P - 3w on flash; page 1 in the buffer, with an entry of 3 and one to its end.
+pub(crate) fn cases(width: usize) {
+    let mut volume = [255u8; 256];
+    build::page(width, &mut volume, 0, 0, words(width, 5));
+    let mut buffer = [0u8; 64];
+    build::header(width, &mut buffer, count(width, 1, 0, 0));
+    let at = build::sevens(width, &mut buffer, words(width, 1), 3);
+    build::sevens(width, &mut buffer, at, less(words(width, 5), 3));
+    looks(
+        width,
+        text::part(&volume, 0, sizes::volume_size(width)),
+        text::part(&buffer, 0, sizes::page_size(width)),
+    );
 }

@@ -1,46 +1,59 @@
-// Pages, offsets, slots, rounding up, and the overwritten page, at P = 32 and N = 4.
+// Pages, offsets, slots, rounding up, and the overwritten page.
 use page::id::EntryID;
 use page::id::PageNumber;
 use say::print;
+use say::sizes;
+use say::sizes::count;
 
-fn ids(id: usize) {
-    if 1879048192 < id {
+fn ids(width: usize, id: usize) {
+    if sizes::ceiling(width) < id {
         return;
     }
-    let k = page::id::page_number(EntryID(id), 32);
+    let p = sizes::page_size(width);
+    let k = page::id::page_number(EntryID(id), p);
     print::label(b"id, page, offset, slot, rounded up", 0);
     print::number(id);
     print::number(k.0);
-    print::number(page::id::page_offset(EntryID(id), 32));
+    print::number(page::id::page_offset(EntryID(id), p));
     print::number(page::id::page_slot(k, 4));
-    let up = page::id::round_up(EntryID(id), 32);
+    let up = page::id::round_up(EntryID(id), p);
     print::number(up.0);
     print::end();
 }
 
-fn overwritten(k: usize) {
-    if 58720255 < k {
+fn overwritten(width: usize, k: usize) {
+    let w = sizes::board(width);
+    let p = 8 * w;
+    if page::header::ceiling(w) / p <= k {
         return;
     }
     print::label(b"page, overwritten page", 0);
     print::number(k);
-    let over = page::flush::overwritten_page(PageNumber(k), 32, 128);
+    let over = page::flush::overwritten_page(w, PageNumber(k), p, 4 * p);
     print::number(over.0);
     print::end();
 }
 
-pub(crate) fn cases() {
-    ids(0);
-    ids(4);
-    ids(31);
-    ids(32);
-    ids(33);
-    ids(145);
-    ids(1879048160);
-    ids(1879048192);
-    overwritten(0);
-    overwritten(3);
-    overwritten(4);
-    overwritten(5);
-    overwritten(58720255);
+// The last page below the ceiling.
+fn last_page(width: usize) -> usize {
+    sizes::less(sizes::ceiling(width) / sizes::page_size(width), 1)
+}
+
+pub(crate) fn cases(width: usize) {
+    ids(width, 0);
+    ids(width, count(width, 0, 1, 0));
+    ids(width, sizes::less(count(width, 1, 0, 0), 1));
+    ids(width, count(width, 1, 0, 0));
+    ids(width, count(width, 1, 0, 1));
+    ids(width, count(width, 4, 4, 1));
+    ids(
+        width,
+        sizes::less(sizes::ceiling(width), count(width, 1, 0, 0)),
+    );
+    ids(width, sizes::ceiling(width));
+    overwritten(width, 0);
+    overwritten(width, 3);
+    overwritten(width, 4);
+    overwritten(width, 5);
+    overwritten(width, last_page(width));
 }

@@ -1,16 +1,20 @@
-// Surveys of a volume of 4 pages of 32 bytes, and the capacity. `names` has a line for each case.
+// Surveys of a volume, and the capacity. `names` has a line for each case.
 use crate::restart::four;
 use log::get::Capacity;
 use recovery::restart::Restarted;
 use recovery::survey::Surveyed;
 use say::build;
+use say::build::first_id;
 use say::print;
+use say::sizes;
+use say::sizes::less;
+use script::text;
 
-fn wide(word: u32) -> usize {
+fn wide(word: u64) -> usize {
     word as usize
 }
 
-fn words(ids: &[u32]) {
+fn words(ids: &[u64]) {
     let mut i: usize = 0;
     while i < ids.len() {
         let id = ids[i];
@@ -20,9 +24,9 @@ fn words(ids: &[u32]) {
 }
 
 // A survey: its answer, the count, and the slice.
-fn survey(names: &[u8], k: usize, volume: &[u8], ids: &mut [u32]) {
+fn survey(width: usize, names: &[u8], k: usize, volume: &[u8], ids: &mut [u64]) {
     print::label(names, k);
-    match recovery::survey::survey(four(), volume, ids) {
+    match script::survey::survey(width, four(width), volume, ids) {
         Surveyed::Shape => print::number(20),
         Surveyed::Size => print::number(7),
         Surveyed::Count(n) => {
@@ -34,66 +38,100 @@ fn survey(names: &[u8], k: usize, volume: &[u8], ids: &mut [u32]) {
     print::end();
 }
 
-// Four headers, in the slots' order, and a slice of n.
-fn headers(names: &[u8], k: usize, a: u32, b: u32, c: u32, d: u32, n: usize) {
-    if 4 < n {
-        return;
-    }
-    let mut volume = [255u8; 128];
-    build::slots(&mut volume, a, b, c, d);
-    let mut ids = [7u32; 4];
-    survey(names, k, &volume, &mut ids[..n]);
+// A survey of so many bytes, with a slice of n.
+fn of_bytes(width: usize, names: &[u8], k: usize, bytes: &[u8], size: usize, n: usize) {
+    let mut ids = [7u64; 4];
+    survey(
+        width,
+        names,
+        k,
+        text::part(bytes, 0, size),
+        text::front_u64(&mut ids, n),
+    );
 }
 
-// A slice of 4, of 2 and of none.
-fn slices(names: &[u8], k: usize, a: u32, b: u32, c: u32, d: u32) {
-    headers(names, k, a, b, c, d, 4);
-    headers(names, 4, a, b, c, d, 2);
-    headers(names, 5, a, b, c, d, 0);
+// Four headers, in the slots' order, and a slice of 4, of 2 and of none.
+fn headers(width: usize, names: &[u8], k: usize, a: usize, b: usize, c: usize, d: usize) {
+    let mut volume = [255u8; 256];
+    build::slots(width, &mut volume, a, b, c, d);
+    let size = sizes::volume_size(width);
+    of_bytes(width, names, k, &volume, size, 4);
+    of_bytes(width, names, 4, &volume, size, 2);
+    of_bytes(width, names, 5, &volume, size, 0);
+}
+
+// The same by the pages' numbers, 255 for none.
+fn pages(width: usize, names: &[u8], k: usize, a: u8, b: u8, c: u8, d: u8) {
+    headers(
+        width,
+        names,
+        k,
+        first_id(width, a),
+        first_id(width, b),
+        first_id(width, c),
+        first_id(width, d),
+    );
 }
 
 // A volume that is too short.
-fn short(names: &[u8], k: usize) {
-    let volume = [0u8; 127];
-    let mut ids = [7u32; 4];
-    survey(names, k, &volume, &mut ids);
+fn short(width: usize, names: &[u8], k: usize) {
+    let volume = [0u8; 256];
+    of_bytes(
+        width,
+        names,
+        k,
+        &volume,
+        less(sizes::volume_size(width), 1),
+        4,
+    );
 }
 
 // The capacity of a log on an erased volume.
-fn capacity(names: &[u8], k: usize) {
-    let volume = [255u8; 128];
-    let mut page = [0u8; 32];
-    let hold = [0u8; 32];
-    print::label(names, k);
-    match recovery::restart::restart(four(), true, false, false, &volume, &mut page, &hold) {
+fn capacity_of(width: usize, volume: &[u8], page: &mut [u8], hold: &[u8]) {
+    match recovery::restart::restart(width, four(width), true, false, false, volume, page, hold) {
         Restarted::Shape => print::number(20),
-        Restarted::Log(log) => match log::get::get_size(log) {
+        Restarted::Log(log) => match log::get::get_size(width, log) {
             Capacity::Bytes(n) => print::number(n),
             Capacity::Shape => print::number(20),
         },
     }
+}
+
+fn capacity(width: usize, names: &[u8], k: usize) {
+    let volume = [255u8; 256];
+    let mut page = [0u8; 64];
+    let hold = [0u8; 64];
+    let p = sizes::page_size(width);
+    print::label(names, k);
+    capacity_of(
+        width,
+        text::part(&volume, 0, sizes::volume_size(width)),
+        text::front(&mut page, p),
+        text::part(&hold, 0, p),
+    );
     print::end();
 }
 
-fn surveys(names: &[u8]) {
-    let none = 4294967295;
-    slices(names, 0, none, none, none, none);
-    slices(names, 1, 128, 32, none, 96);
-    slices(names, 2, 0, 32, 64, 96);
-    slices(names, 3, 1879048192, 0, 0, 1879048160);
-    short(names, 6);
-    capacity(names, 7);
+fn surveys(width: usize, names: &[u8]) {
+    let c = sizes::ceiling(width);
+    pages(width, names, 0, 255, 255, 255, 255);
+    pages(width, names, 1, 4, 1, 255, 3);
+    pages(width, names, 2, 0, 1, 2, 3);
+    headers(width, names, 3, c, 0, 0, less(c, sizes::page_size(width)));
+    short(width, names, 6);
+    capacity(width, names, 7);
 }
 
-pub(crate) fn cases() {
+pub(crate) fn cases(width: usize) {
     surveys(
+        width,
         b"survey of an erased volume
-survey of headers 128, 32, none, 96
-survey of headers 0, 32, 64, 96
-survey of headers 1879048192, 0, 0, 1879048160
+survey of headers 4P, P, none, 3P
+survey of headers 0, P, 2P, 3P
+survey of headers C, 0, 0, C - P
   into two
   into none
-survey of 127 bytes
+survey of L - 1 bytes
 get_size",
     );
 }

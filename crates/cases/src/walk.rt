@@ -1,70 +1,90 @@
-// Walks of pages of 32 bytes. `names` has a line for each.
+// Walks of a page. `names` has a line for each.
 use say::build;
 use say::print;
+use say::sizes;
+use say::sizes::less;
+use say::sizes::words;
+use script::text;
 
-fn walk(names: &[u8], k: usize, page: &[u8]) {
-    print::line(names, k, page::walk::walk(page));
+fn walk(width: usize, names: &[u8], k: usize, page: &[u8]) {
+    let w = sizes::board(width);
+    print::line(names, k, page::walk::walk(w, page));
+}
+
+// A walk of a page at the front of some bytes.
+fn front(width: usize, names: &[u8], k: usize, bytes: &[u8]) {
+    walk(
+        width,
+        names,
+        k,
+        text::part(bytes, 0, sizes::page_size(width)),
+    );
 }
 
 // A page whose bytes are all the same.
-fn uniform(names: &[u8], k: usize, byte: u8) {
-    let page = [byte; 32];
-    walk(names, k, &page);
+fn uniform(width: usize, names: &[u8], k: usize, byte: u8) {
+    let page = [byte; 64];
+    front(width, names, k, &page);
 }
 
 // A page with one entry, and a second one unless its length is 0.
-fn entries(names: &[u8], k: usize, n: usize, m: usize) {
-    let mut page = [0u8; 32];
-    let at = build::sevens(&mut page, 4, n);
-    build::sevens(&mut page, at, m);
-    walk(names, k, &page);
+fn entries(width: usize, names: &[u8], k: usize, n: usize, m: usize) {
+    let mut page = [0u8; 64];
+    let at = build::sevens(width, &mut page, words(width, 1), n);
+    build::sevens(width, &mut page, at, m);
+    front(width, names, k, &page);
 }
 
 // A page with one entry and its tail padded.
-fn padded(names: &[u8], k: usize, n: usize) {
-    let mut page = [0u8; 32];
-    let at = build::sevens(&mut page, 4, n);
+fn padded(width: usize, names: &[u8], k: usize, n: usize) {
+    let mut page = [0u8; 64];
+    let at = build::sevens(width, &mut page, words(width, 1), n);
     page::store::pad(&mut page, at);
-    walk(names, k, &page);
-    print::bytes(b"that page", 0, &page);
+    front(width, names, k, &page);
+    print::bytes(
+        b"that page",
+        0,
+        text::part(&page, 0, sizes::page_size(width)),
+    );
 }
 
 // An entry of 3 bytes, then a length word.
-fn then(names: &[u8], k: usize, word: u32) {
-    let mut page = [255u8; 32];
-    let at = build::sevens(&mut page, 4, 3);
-    build::word(&mut page, at, word);
-    walk(names, k, &page);
+fn then(width: usize, names: &[u8], k: usize, word: usize) {
+    let mut page = [255u8; 64];
+    let at = build::sevens(width, &mut page, words(width, 1), 3);
+    build::word(width, &mut page, at, word);
+    front(width, names, k, &page);
 }
 
-// An entry that ends where no length word fits.
-fn near_the_end(names: &[u8], k: usize) {
-    let mut page = [1u8; 32];
-    build::word(&mut page, 4, 22);
-    walk(names, k, &page);
+// An entry that ends 2 bytes before the page's end.
+fn near_the_end(width: usize, names: &[u8], k: usize) {
+    let mut page = [1u8; 64];
+    build::word(width, &mut page, words(width, 1), less(words(width, 6), 2));
+    front(width, names, k, &page);
 }
 
-fn walks(names: &[u8]) {
-    entries(names, 0, 24, 0);
-    entries(names, 1, 5, 15);
-    padded(names, 2, 20);
-    uniform(names, 3, 0);
-    uniform(names, 4, 255);
-    then(names, 5, 4294967295);
-    then(names, 6, 0);
-    then(names, 7, 18);
-    then(names, 8, 17);
-    then(names, 9, 4294967284);
-    then(names, 10, 256);
-    near_the_end(names, 11);
-    walk(names, 12, &[1, 1, 1]);
+fn walks(width: usize, names: &[u8]) {
+    entries(width, names, 0, words(width, 6), 0);
+    entries(width, names, 1, 5, less(words(width, 5), 5));
+    padded(width, names, 2, words(width, 5));
+    uniform(width, names, 3, 0);
+    uniform(width, names, 4, 255);
+    then(width, names, 5, sizes::largest_word(width));
+    then(width, names, 6, 0);
+    then(width, names, 7, less(words(width, 5), 2));
+    then(width, names, 8, less(words(width, 5), 3));
+    then(width, names, 9, less(sizes::largest_word(width), 11));
+    then(width, names, 10, 256);
+    near_the_end(width, names, 11);
+    walk(width, names, 12, &[1, 1, 1]);
 }
 
-pub(crate) fn cases() {
+pub(crate) fn cases(width: usize) {
     walks(
-        b"walk of 24
-walk of 5, then 15
-walk of 20, padded by 4
+        width,
+        b"walk of P - 2w
+walk of 5, then to the end
+walk of P - 3w, padded by w
 walk of zeros
 walk of an erased page
 walk of 3, then padding

@@ -232,7 +232,7 @@ append-keeps {w} v {l} {volume} {page} {hold} {bytes} {n} {word} a h =
     body : appendChecks w l (length volume) (length page) (length hold) (length bytes) n ≡ none → Openable w (appendRuns w l n word .log)
     body e =
         let c = or-none (gate w l (length volume) (length page) (length hold)) _ e in
-        append-open l (length bytes) n word (shaped v l (length volume) (length page) (length hold) (c .0) .sizes) (c .1)
+        append-open l (length bytes) n word (shaped w l (length volume) (length page) (length hold) (c .0) .sizes) (c .1)
 
 -- sync
 pub sync-keeps : {w : ℕ} {l : Log} {volume page hold : List ℕ} {word : Word} {o : Outcome} {page' : List ℕ}

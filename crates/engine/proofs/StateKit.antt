@@ -146,4 +146,4 @@ kept-unless (some a) l o h f = h
 
 -- what the gate lets through has sizes that fit
 pub sizes-gated : {w : ℕ} → Width w → (l : Log) (volume page hold : ℕ) (c : Option ℕ) → orElse (gate w l volume page hold) c ≡ none → Sizes w (l .geometry .p) (l .geometry .n)
-sizes-gated {w} v l volume page hold c e = shaped v l volume page hold (or-none (gate w l volume page hold) c e .0) .sizes
+sizes-gated {w} v l volume page hold c e = shaped w l volume page hold (or-none (gate w l volume page hold) c e .0) .sizes

@@ -128,7 +128,7 @@ append-keeps {w} v l volume page hold room n word h =
 pub sync-keeps : {w : ℕ} → Width w → (l : Log) (volume page hold : ℕ) (word : Word) → stateFits w l ≡ true
     → stateFits w (unless (gate w l volume page hold) l (syncRuns w l word) .log) ≡ true
 sync-keeps {w} v l volume page hold word h =
-    kept-unless (gate w l volume page hold) l (syncRuns w l word) h (λ e s. sync-fits l (shaped v l volume page hold e .sizes) s word)
+    kept-unless (gate w l volume page hold) l (syncRuns w l word) h (λ e s. sync-fits l (shaped w l volume page hold e .sizes) s word)
 
 -- a write's completion keeps STATE
 pub write-keeps : {w : ℕ} → Width w → (l : Log) (volume page hold : ℕ) (good : Bool) → stateFits w l ≡ true

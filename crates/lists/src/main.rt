@@ -1,14 +1,21 @@
-// Runs a list of events, read from standard input as bytes, on a fresh volume of 4 pages of 32 bytes. A further restart then comes in the middle of whatever is under way, which leaves the old page.
-// Writes the oldest ID and the append ID that it found, how many entries were read, and their bytes with each length before them.
+// Runs lists of events, read from standard input as bytes. Before each stand the width of a word (one byte) and how many bytes the list has (four bytes, the
+// lowest first). Each runs on a fresh volume of 4 pages of 8 words. A further restart then comes in the middle of whatever is under way, which leaves the old
+// page. Writes for each the oldest ID and the append ID that it found, how many entries were read, and their bytes with each length before them.
+ghost use Prim.Native.Nat.{_≤_};
+ghost use lib.ListN.{length};
 use flash::operation::Erasure;
 use flash::operation::Written;
 use libc::STDIN_FILENO;
 use log::state::Geometry;
+use page::word;
 use running::run;
 use running::run::Found;
 use running::run::Ran;
 use script::text;
 use script::trace;
+
+// The bytes before each list.
+const HEAD_SIZE: usize = 5;
 
 fn found(found: Found, entries: &[u8], line: &mut [u8]) {
     let start = trace::pair(line, b"found", found.oldest.0, found.append.0);
@@ -29,7 +36,9 @@ fn show(ran: Ran, entries: &[u8], line: &mut [u8]) {
     }
 }
 
-fn list(
+fn on_volume(
+    width: usize,
+    page_size: usize,
     bytes: &[u8],
     volume: &mut [u8],
     page: &mut [u8],
@@ -38,11 +47,12 @@ fn list(
     line: &mut [u8],
 ) {
     let geometry = Geometry {
-        page_size: 32,
+        page_size,
         page_count: 4,
         first_page: 100,
     };
     let ran = run::run(
+        width,
         geometry,
         true,
         bytes,
@@ -57,20 +67,77 @@ fn list(
     show(ran, entries, line);
 }
 
-fn main() {
-    let mut bytes = [0u8; 4096];
-    let mut volume = [255u8; 128];
-    let mut page = [0u8; 32];
-    let mut hold = [0u8; 32];
+// The volume and the buffers are as long as the width asks for, up to 8 bytes a word.
+fn on_parts(
+    width: u8,
+    bytes: &[u8],
+    volume: &mut [u8],
+    page: &mut [u8],
+    hold: &mut [u8],
+    entries: &mut [u8],
+    line: &mut [u8],
+) {
+    let w = width as usize;
+    let p = 8 * w;
+    on_volume(
+        w,
+        p,
+        bytes,
+        text::front(volume, 4 * p),
+        text::front(page, p),
+        text::front(hold, p),
+        entries,
+        line,
+    );
+}
+
+fn list(width: u8, bytes: &[u8]) {
+    let mut volume = [255u8; 256];
+    let mut page = [0u8; 64];
+    let mut hold = [0u8; 64];
     let mut entries = [0u8; 1024];
     let mut line = [0u8; 4096];
-    let n = io::read_full(STDIN_FILENO, &mut bytes);
-    list(
-        text::part(&bytes, 0, n),
+    on_parts(
+        width,
+        bytes,
         &mut volume,
         &mut page,
         &mut hold,
         &mut entries,
         &mut line,
     );
+}
+
+// How many bytes the list at the front takes up with what stands before it; 0 where they are not all there.
+fn list_size(bytes: &[u8]) -> usize
+    ensures { λ r. ⌜ r ≤ length (now (bytes .entry)) ⌝ }
+{
+    if bytes.len() < HEAD_SIZE {
+        return 0;
+    }
+    let size = HEAD_SIZE + word::read_four(bytes, 1) as usize;
+    if bytes.len() < size {
+        return 0;
+    }
+    size
+}
+
+// Runs each list, to the last one that is whole.
+fn lists(bytes: &[u8]) {
+    let mut at: usize = 0;
+    while at < bytes.len() {
+        let rest = &bytes[at..];
+        let size = list_size(rest);
+        if size < HEAD_SIZE {
+            return;
+        }
+        list(rest[0], &rest[HEAD_SIZE..size]);
+        at += size;
+    }
+}
+
+fn main() {
+    let mut bytes = [0u8; 4096];
+    let n = io::read_full(STDIN_FILENO, &mut bytes);
+    lists(text::part(&bytes, 0, n));
 }

@@ -112,15 +112,15 @@ module _ {w : ℕ} (g : Geometry) (circular : Bool) (volume : List ℕ) (z : Siz
           }
 
 -- a restart that isn't refused leaves a state that satisfies STATE
-pub restart-fits : {w : ℕ} → Width w → (g : Geometry) (circular read-client append-client : Bool) (volume page hold : List ℕ) {log : Log}
+pub restart-fits : (w : ℕ) (g : Geometry) (circular read-client append-client : Bool) (volume page hold : List ℕ) {log : Log}
     → restart w g circular read-client append-client volume page hold ≡ started log → stateFits w log ≡ true
 unfolding restart
-restart-fits {w} width g circular read-client append-client volume page hold {log} e = go (shapeFits w g (length volume) (length page) (length hold)) refl e
+restart-fits w g circular read-client append-client volume page hold {log} e = go (shapeFits w g (length volume) (length page) (length hold)) refl e
   where
     go : (b : Bool) → shapeFits w g (length volume) (length page) (length hold) ≡ b
         → pick b (started (restoredLog w g circular read-client append-client volume)) (refused SHAPE) ≡ started log → stateFits w log ≡ true
     go true s q =
-        let t = shape-fits width g (length volume) (length page) (length hold) s in
+        let t = shape-fits w g (length volume) (length page) (length hold) s in
         let i : restoredLog w g circular read-client append-client volume ≡ log = cc in
         rw i at (fits-state w _ (restored-fits g circular volume (t .sizes) (t .whole) read-client append-client))
     go false s q = let z : _≡_ {A = ℕ} 0 1 = cc in absurd (omega arith)

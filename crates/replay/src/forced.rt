@@ -59,8 +59,18 @@ pub(crate) fn write(
     let geometry = log.geometry;
     let operation = bench.operation;
     match forced_write(world.hostile, operation, call) {
-        Forced::No => writes::run(geometry, bench, call, volume, page, hold, client),
+        Forced::No => writes::run(
+            world.width,
+            geometry,
+            bench,
+            call,
+            volume,
+            page,
+            hold,
+            client,
+        ),
         Forced::Complete(good, word) => writes::written(
+            world.width,
             geometry.first_page,
             bench,
             Ended::Nothing,
@@ -84,8 +94,9 @@ pub(crate) fn erase(
     let geometry = log.geometry;
     let operation = bench.operation;
     match forced_erase(world.hostile, operation, call) {
-        Forced::No => erases::run(geometry, bench, call, volume, page, hold),
+        Forced::No => erases::run(world.width, geometry, bench, call, volume, page, hold),
         Forced::Complete(good, word) => erases::erased(
+            world.width,
             geometry.first_page,
             bench,
             Ended::Nothing,

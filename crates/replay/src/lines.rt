@@ -53,7 +53,16 @@ fn read<'a>(
     let bench = world.bench;
     let log = bench.log;
     let geometry = log.geometry;
-    let step = stepping::reads::run(geometry, bench, call, volume, page, hold, client);
+    let step = stepping::reads::run(
+        world.width,
+        geometry,
+        bench,
+        call,
+        volume,
+        page,
+        hold,
+        client,
+    );
     let middle = show::call(name, step, page, hold, out);
     let stop = client_bytes(call, client, middle, out);
     trace::end(out, stop);

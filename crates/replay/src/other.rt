@@ -33,20 +33,21 @@ fn survey_count(answer: Surveyed) -> usize {
     }
 }
 
-fn survey_into(log: Log, volume: &[u8], ids: &mut [u32], out: &mut [u8]) {
+fn survey_into(width: usize, log: Log, volume: &[u8], ids: &mut [u64], out: &mut [u8]) {
     let geometry = log.geometry;
-    let answer = recovery::survey::survey(geometry, volume, ids);
+    let answer = script::survey::survey(width, geometry, volume, ids);
     let start = trace::pair(out, b"survey", survey_answer(answer), survey_count(answer));
     let stop = trace::words(out, start, ids);
     trace::end(out, stop);
 }
 
 fn survey(world: World, count: usize, volume: &[u8], out: &mut [u8]) -> World {
-    let mut ids = [4294967295u32; 4096];
+    let mut ids = [18446744073709551615u64; 4096];
     survey_into(
+        world.width,
         world.bench.log,
         volume,
-        text::front_words(&mut ids, count),
+        text::front_u64(&mut ids, count),
         out,
     );
     world
@@ -58,7 +59,7 @@ fn getters(world: World, out: &mut [u8]) -> World {
         return show::not_delivered(b"get", world, out);
     }
     let log = bench.log;
-    let size = match get::get_size(log) {
+    let size = match get::get_size(world.width, log) {
         Capacity::Bytes(bytes) => bytes,
         Capacity::Shape => 0,
     };

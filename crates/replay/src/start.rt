@@ -3,6 +3,8 @@ use crate::power;
 use crate::power::Ending;
 use crate::world;
 use crate::world::World;
+use log::check;
+use log::state::Geometry;
 use log::state::Log;
 use script::parse::Fault;
 use script::text;
@@ -12,17 +14,16 @@ use stepping::world::Ended;
 use stepping::world::Step;
 
 // The buffers' length before the first restart: P where SHAPE admits P, else none.
-fn buffer_size(page_size: usize) -> usize {
-    if page_size < 16 {
-        return 0;
+fn buffer_size(width: usize, page_size: usize) -> usize {
+    let one_page = Geometry {
+        page_size,
+        page_count: 1,
+        first_page: 0,
+    };
+    if check::sizes_fit(width, one_page) {
+        return page_size;
     }
-    if 4096 < page_size {
-        return 0;
-    }
-    if 4096 % page_size != 0 {
-        return 0;
-    }
-    page_size
+    0
 }
 
 // `circular` or `plain`.
@@ -41,12 +42,26 @@ fn mode_of(word: &[u8]) -> Mode {
     Mode::Bad
 }
 
-// `sizes P N FIRST MODE`
+// WIDTH, which is 4 where the line ends before it.
+fn width_of(line: &[u8]) -> Number {
+    if text::last(line, 4) {
+        return Number::Value(4);
+    }
+    let Number::Value(width) = text::value(text::word(line, 5)) else {
+        return Number::Bad;
+    };
+    match width {
+        4 | 8 => Number::Value(width),
+        _ => Number::Bad,
+    }
+}
+
+// `sizes P N FIRST MODE WIDTH`
 pub(crate) fn sizes(line: &[u8], world: World) -> World {
     if !text::same(text::word(line, 0), b"sizes") {
         return world::faulty(world, Fault::Place);
     }
-    if !text::last(line, 4) {
+    if !text::last(line, 5) {
         return world::faulty(world, Fault::Words);
     }
     let Number::Value(page_size) = text::limited(text::word(line, 1), 4294967295) else {
@@ -61,9 +76,13 @@ pub(crate) fn sizes(line: &[u8], world: World) -> World {
     let Mode::Circular(circular) = mode_of(text::word(line, 4)) else {
         return world::faulty(world, Fault::Word);
     };
+    let Number::Value(width) = width_of(line) else {
+        return world::faulty(world, Fault::Word);
+    };
     world::sized(
+        width,
         world::blank_log(page_size, page_count, first_page, circular),
-        buffer_size(page_size),
+        buffer_size(width, page_size),
     )
 }
 
@@ -199,6 +218,7 @@ fn run(
     let log = bench.log;
     let geometry = log.geometry;
     let step = stepping::power::restart(
+        world.width,
         geometry,
         log.circular,
         bench,

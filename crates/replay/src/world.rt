@@ -12,6 +12,8 @@ pub(crate) enum Stage {
 }
 
 pub(crate) struct World {
+    // How many bytes the board's words have.
+    pub width: usize,
     pub stage: Stage,
     pub bench: bench::World,
     // A state was put in place of the log's: every completion is delivered.
@@ -40,6 +42,7 @@ pub(crate) fn blank_log(
 
 pub(crate) fn empty() -> World {
     World {
+        width: 4,
         stage: Stage::Sizes,
         bench: blank_log(0, 0, 0, false),
         hostile: false,
@@ -55,6 +58,7 @@ pub(crate) fn faulty(world: World, fault: Fault) -> World {
     let stage = world.stage;
     let bench = world.bench;
     World {
+        width: world.width,
         stage,
         bench,
         hostile: world.hostile,
@@ -81,8 +85,9 @@ pub(crate) fn is_faulty(world: World) -> bool {
 }
 
 // The world after `sizes`: page and hold buffers of so many zeros.
-pub(crate) fn sized(bench: bench::World, buffer: usize) -> World {
+pub(crate) fn sized(width: usize, bench: bench::World, buffer: usize) -> World {
     World {
+        width,
         stage: Stage::Volume,
         bench,
         hostile: false,
@@ -97,6 +102,7 @@ pub(crate) fn sized(bench: bench::World, buffer: usize) -> World {
 pub(crate) fn with_volume(world: World, volume: usize) -> World {
     let bench = world.bench;
     World {
+        width: world.width,
         stage: Stage::Restart,
         bench,
         hostile: false,
@@ -110,6 +116,7 @@ pub(crate) fn with_volume(world: World, volume: usize) -> World {
 // The world after a restart with buffers of these lengths.
 pub(crate) fn restarted(world: World, bench: bench::World, page: usize, hold: usize) -> World {
     World {
+        width: world.width,
         stage: Stage::Calls,
         bench,
         hostile: false,
@@ -123,6 +130,7 @@ pub(crate) fn restarted(world: World, bench: bench::World, page: usize, hold: us
 // The world after a call, or after a state was put in place.
 pub(crate) fn after(world: World, bench: bench::World, hostile: bool) -> World {
     World {
+        width: world.width,
         stage: Stage::Calls,
         bench,
         hostile,

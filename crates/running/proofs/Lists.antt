@@ -11,7 +11,7 @@ use Rattle.page.specs.Pick.{pick}
 use Rattle.page.specs.Word.{wordAt}
 use Rattle.running.specs.Encoded.{eventSize, complete, eventAt, decode}
 
-pub size-some : (s : List ℕ) → 10 ≤ eventSize s
+pub size-some : (s : List ℕ) → 14 ≤ eventSize s
 unfolding eventSize
 size-some s = omega arith
 
@@ -38,7 +38,7 @@ decode-first : (room : ℕ) (s : List ℕ) → complete s ≡ true → decode ro
 unfolding decode eventSize
 decode-first room [] e = absurd (omega (arith, complete-fits [] e, size-some []))
 decode-first room (b ∷ s) e =
-    let n = 9 + wordAt 4 (b ∷ s) 6 in
+    let n = 13 + wordAt 4 (b ∷ s) 10 in
     let size : suc n ≡ eventSize (b ∷ s) = omega arith in
     rw e (ap (λ l. eventAt room (b ∷ s) ∷ l) (decode-skip room n s ∙ ap (λ m. decode room 0 (drop m (b ∷ s))) size))
 

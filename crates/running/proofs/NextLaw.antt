@@ -8,7 +8,6 @@ use native.Mathlib.Nat.{zero-add}
 use lib.ListN.{length, take, drop, replicate, length-drop, take-append-drop, drop-of-length-le}
 use lib.Seq.{take-all, drop-at, length-take-le}
 use borrow.Rule.Slice.PartMut.{midOf, putMid}
-use Rattle.page.specs.Sizes.{Width}
 use Rattle.page.specs.Word.{wordBytes}
 use Rattle.page.specs.Bytes.{overwrite}
 use Rattle.page.proofs.Words.{length-wordBytes}
@@ -55,18 +54,12 @@ module _ (w : ℕ) (volume page hold : List ℕ) (l : Log) {out bytes' : List �
       let same : bytes' ≡ drop w out = said .1 ∙ unread w volume page hold l (length out - w) no ∙ sym (rest-zeros w out z (omega arith)) ∙ rest-lent w out in
       stops (ends h no) (rest-back w out bytes' ∙ ap (λ b. take w out ++ b) same ∙ take-append-drop w out)
 
-  -- the length of an entry that is read is small
-  pub next-small : Width w → o .answer ≡ OK → o .log .kept ≤ 4096
-  next-small v q =
-      let g = given w volume page hold l (length out - w) v (ap (λ o. o .answer) (sym (said .0)) ∙ q) in
-      omega (arith, ap (λ o. o .log .kept) (said .0), g)
-
   -- a read that is answered OK, with the entry's length before it
-  pub next-reads : Width w → o .answer ≡ OK → {next : Next} {out' : List ℕ} → next .log ≡ afterwards w volume page hold (o .log) → next .size ≡ o .log .kept
+  pub next-reads : o .answer ≡ OK → {next : Next} {out' : List ℕ} → next .log ≡ afterwards w volume page hold (o .log) → next .size ≡ o .log .kept
       → out' ≡ overwrite (putMid w (length out - w) out bytes') 0 (wordBytes w (o .log .kept)) → NextRead w volume page hold l out out' (some next)
-  next-reads v q a s f =
+  next-reads q a s f =
       let ok : reading w volume page hold l (length out - w) .answer ≡ OK = ap (λ o. o .answer) (sym (said .0)) ∙ q in
-      let g = given w volume page hold l (length out - w) v ok in
+      let g = given w volume page hold l (length out - w) ok in
       let size : o .log .kept ≡ length (entry w volume page hold l (length out - w)) = ap (λ o. o .log .kept) (said .0) ∙ sym (g .size) in
       reads h ok (a ∙ ap (λ o. afterwards w volume page hold (o .log)) (said .0)) (s ∙ size)
       (f ∙ word-before w out _ (entry w volume page hold l (length out - w)) _ (omega arith) (rest-back w out bytes' ∙ ap (λ b. take w out ++ b) (said .1 ∙ g .rest)) size)

@@ -66,8 +66,8 @@ module _ {w : ℕ} {volume page hold : List ℕ} where
   ended (reads h k a s f) q = let z : _≡_ {A = ℕ} 0 1 = cc in absurd (omega arith)
 
   -- an entry fits with its length before it
-  entered-fits : {l : Log} {room : ℕ} {out' : List ℕ} {next : Next} → Width w → Entered w volume page hold l room out' next → w + next .size ≤ room
-  entered-fits {l} {room} v e = let g = given w volume page hold l (room - w) v (e .ok) in omega (arith, e .some-room, e .size, g .fits)
+  entered-fits : {l : Log} {room : ℕ} {out' : List ℕ} {next : Next} → Entered w volume page hold l room out' next → w + next .size ≤ room
+  entered-fits {l} {room} e = let g = given w volume page hold l (room - w) (e .ok) in omega (arith, e .some-room, e .size, g .fits)
 
   -- nothing is read
   pub sofar-starts : (l : Log) (out : List ℕ) → out ≡ replicate (length out) 0 → Sofar w volume page hold l (length out) out l 0 0
@@ -101,7 +101,7 @@ module _ {w : ℕ} {volume page hold : List ℕ} where
         let e : Entered w volume page hold current (n - at) part' next = subst (λ k. Entered w volume page hold current k part' next) sofar-room d in
         let new : List ℕ = entry w volume page hold current (n - at - w) in
         let total : at + (w + next .size) ≡ entriesLength w (s .entries ++ (new ∷ [])) = omega (arith, s .total, e .size, entriesLength-append w (s .entries) (new ∷ [])) in
-        let fits : at + (w + next .size) ≤ n = omega (arith, s .fits, entered-fits v e) in
+        let fits : at + (w + next .size) ≤ n = omega (arith, s .fits, entered-fits e) in
         let leaves : putMid at (length out - at) out part' ≡ laid w n (s .entries ++ (new ∷ [])) =
         rest-back at out part' ∙ laid-more w n (s .entries) new (s .total) (s .leaves) (e .leaves) in
         record {

@@ -11,7 +11,6 @@ use lib.Seq.{take-at, drop-at}
 use lib.Dec.{ltb}
 use borrow.Author.Tests.{ltb-false}
 use Rattle.page.specs.Pick.{pick}
-use Rattle.page.specs.Sizes.{Width}
 use Rattle.page.specs.Bytes.{overwrite}
 use Rattle.page.specs.Answered.{Answered, gives, refuses}
 use Rattle.lookup.specs.Held.{bytesAt, entryLength}
@@ -78,7 +77,6 @@ module _ (w : ℕ) (l : Log) (volume page bytes : List ℕ) (n : ℕ) where
 pub record Given (w : ℕ) (volume page hold : List ℕ) (l : Log) (room : ℕ) : Type 0 where
   pub size : length (entry w volume page hold l room) ≡ reading w volume page hold l room .log .kept
   pub fits : length (entry w volume page hold l room) + 2 * w ≤ l .geometry .p
-  pub most : l .geometry .p ≤ 4096
   pub rest : buffer w volume page hold l room ≡ entry w volume page hold l room ++ replicate (room - length (entry w volume page hold l room)) 0
 
 module _ (w : ℕ) (volume page hold : List ℕ) (l : Log) (room : ℕ) where
@@ -104,12 +102,12 @@ module _ (w : ℕ) (volume page hold : List ℕ) (l : Log) (room : ℕ) where
       (runs-still w l volume page (replicate room 0) (l .geometry .p)) h
 
   -- one that is gives an entry
-  pub given : Width w → reading w volume page hold l room .answer ≡ OK → Given w volume page hold l room
-  given v q =
+  pub given : reading w volume page hold l room .answer ≡ OK → Given w volume page hold l room
+  given q =
       let y = read-ok zeros-read q in
       let g = y .1 .1 .1 .1 .1 in
       let z = read-gives zeros-read (y .0) (y .1 .0) (y .1 .1 .0) (y .1 .1 .1 .0) (y .1 .1 .1 .1 .0) g in
-      let s = shape-fits v (l .geometry) _ _ _ (y .0 .shape) in
+      let s = shape-fits w (l .geometry) _ _ _ (y .0 .shape) in
       let f = facts (s .sizes) in
       let n = lengthy w (l .geometry .p) (l .append) volume page (g .id) (g .entry) in
       let bytes : List ℕ = bytesAt (l .geometry .p) (l .append) volume page (g .id + w) (g .size) in
@@ -122,6 +120,5 @@ module _ (w : ℕ) (volume page hold : List ℕ) (l : Log) (room : ℕ) where
       record {
         size = ap length same ∙ sym kept;
         fits = omega (arith, ap length same, n .most);
-        most = s .sizes .page .most;
         rest = same-rest room same after;
       }

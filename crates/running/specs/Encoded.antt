@@ -1,5 +1,5 @@
--- A list of events as bytes. An event is ten bytes, its head, and then its own bytes: an append's client buffer, or a restart's page and hold buffers.
--- The head has the event's kind, its options, a number (a word of 4 bytes) and how many bytes of its own follow (a word of 4 bytes). Any bytes are a list; an incomplete last event is none.
+-- A list of events as bytes. An event is fourteen bytes, its head, and then its own bytes: an append's client buffer, or a restart's page and hold buffers.
+-- The head has the event's kind, its options, a number (8 bytes, the lowest first) and how many bytes of its own follow (4 bytes). It is the same for both widths of a word. Any bytes are a list; an incomplete last event is none.
 use Prim.Native.Nat.{ℕ, zero, suc, _+_, _/_, _%_}
 use mathlib.Core.Bool.{Bool}
 use mathlib.Core.List.{List, [], _∷_}
@@ -47,19 +47,19 @@ eventFrom kind k n bytes room =
 
 -- the event at the front of bytes: how many bytes it takes up, and whether they are there
 abbrev pub headSize : ℕ
-headSize = 10
+headSize = 14
 
 unfoldable pub eventSize : List ℕ → ℕ
-eventSize list = headSize + wordAt 4 list 6
+eventSize list = headSize + wordAt 4 list 10
 
 unfoldable pub complete : List ℕ → Bool
 complete list = leb (eventSize list) (length list)
 
 unfoldable pub eventAt : ℕ → List ℕ → Event
-eventAt room list = eventFrom (getD list 0 0) (getD list 1 0) (wordAt 4 list 2) (take (wordAt 4 list 6) (drop headSize list)) room
+eventAt room list = eventFrom (getD list 0 0) (getD list 1 0) (wordAt 8 list 2) (take (wordAt 4 list 10) (drop headSize list)) room
 
 -- the events of bytes, after so many bytes that belong to the event before
 unfoldable pub decode : ℕ → ℕ → List ℕ → List Event
 decode room skip [] = []
 decode room (suc n) (b ∷ list) = decode room n list
-decode room zero (b ∷ list) = pick (complete (b ∷ list)) (eventAt room (b ∷ list) ∷ decode room (9 + wordAt 4 (b ∷ list) 6) list) []
+decode room zero (b ∷ list) = pick (complete (b ∷ list)) (eventAt room (b ∷ list) ∷ decode room (13 + wordAt 4 (b ∷ list) 10) list) []

@@ -1,4 +1,4 @@
-// A list of events as bytes: ten bytes for each event's head, and then its own bytes.
+// A list of events as bytes: fourteen bytes for each event's head, and then its own bytes.
 ghost use mathlib.Core.Path.{_≡_};
 ghost use mathlib.Core.List.{List};
 ghost use Prim.Native.Nat.{ℕ, _≤_};
@@ -20,7 +20,7 @@ use page::id::EntryID;
 use page::word;
 
 // The bytes of an event's head.
-pub const HEAD_SIZE: usize = 10;
+pub const HEAD_SIZE: usize = 14;
 
 // The driver's word, of an event's options.
 fn word_from(options: u8) -> Driver
@@ -113,10 +113,10 @@ fn event_from(kind: u8, options: u8, number: usize) -> Event
 
 // The event at the front of bytes; its own bytes stand beside it.
 pub fn event(list: &[u8]) -> Event
-    requires { ⌜ 10 ≤ length (now list) ⌝ }
-    ensures { λ r. ⌜ ((bytes : List ℕ) (room : ℕ) → eventOf r bytes room ≡ eventFrom (getD (now (list .entry)) 0 0) (getD (now (list .entry)) 1 0) (wordAt 4 (now (list .entry)) 2) bytes room) ⌝ }
+    requires { ⌜ 14 ≤ length (now list) ⌝ }
+    ensures { λ r. ⌜ ((bytes : List ℕ) (room : ℕ) → eventOf r bytes room ≡ eventFrom (getD (now (list .entry)) 0 0) (getD (now (list .entry)) 1 0) (wordAt 8 (now (list .entry)) 2) bytes room) ⌝ }
 {
-    event_from(list[0], list[1], word::read_word(list, 2) as usize)
+    event_from(list[0], list[1], word::read_word(8, list, 2))
 }
 
 // How many bytes the event at the front takes up; 0 where they are not all there.
@@ -126,7 +126,7 @@ pub fn event_size(list: &[u8]) -> usize
     if list.len() < HEAD_SIZE {
         return 0;
     }
-    let size = HEAD_SIZE + word::read_word(list, 6) as usize;
+    let size = HEAD_SIZE + word::read_four(list, 10) as usize;
     if list.len() < size {
         return 0;
     }

@@ -37,6 +37,7 @@ pub enum Ran {
 
 // The event at the front of a list runs.
 fn run_event(
+    width: usize,
     geometry: Geometry,
     circular: bool,
     world: World,
@@ -47,12 +48,13 @@ fn run_event(
     hold: &mut [u8],
     buffer: &mut [u8],
 ) -> World
-    requires { ⌜ (shapeFits 4 (geometryOf geometry) (length (now volume)) (length (now page)) (length (now hold)) ≡ true) × (complete (now list) ≡ true) × (size ≡ eventSize (now list)) ⌝ }
-    ensures { λ r. ⌜ worldOf r (now (page .exit)) (now (hold .exit)) (now (volume .exit)) ≡ bench.step 4 (geometryOf geometry) circular (worldOf world (now (page .entry)) (now (hold .entry)) (now (volume .entry))) (eventAt (length (now (buffer .entry))) (now (list .entry))) .world ⌝ }
+    requires { ⌜ (shapeFits width (geometryOf geometry) (length (now volume)) (length (now page)) (length (now hold)) ≡ true) × (complete (now list) ≡ true) × (size ≡ eventSize (now list)) ⌝ }
+    ensures { λ r. ⌜ worldOf r (now (page .exit)) (now (hold .exit)) (now (volume .exit)) ≡ bench.step width (geometryOf geometry) circular (worldOf world (now (page .entry)) (now (hold .entry)) (now (volume .entry))) (eventAt (length (now (buffer .entry))) (now (list .entry))) .world ⌝ }
 {
     let event = decode::event(list);
     let bytes = &list[HEAD_SIZE..size];
     let done = step::step(
+        width,
         geometry,
         circular,
         world,
@@ -69,6 +71,7 @@ fn run_event(
 
 // A list runs to its last complete event.
 fn run_list(
+    width: usize,
     geometry: Geometry,
     circular: bool,
     list: &[u8],
@@ -77,8 +80,8 @@ fn run_list(
     hold: &mut [u8],
     buffer: &mut [u8],
 ) -> World
-    requires { ⌜ shapeFits 4 (geometryOf geometry) (length (now volume)) (length (now page)) (length (now hold)) ≡ true ⌝ }
-    ensures { λ r. ⌜ worldOf r (now (page .exit)) (now (hold .exit)) (now (volume .exit)) ≡ after 4 (geometryOf geometry) circular (listed (length (now (buffer .entry))) (now (list .entry))) (now (volume .entry)) (now (page .entry)) (now (hold .entry)) .world ⌝ }
+    requires { ⌜ shapeFits width (geometryOf geometry) (length (now volume)) (length (now page)) (length (now hold)) ≡ true ⌝ }
+    ensures { λ r. ⌜ worldOf r (now (page .exit)) (now (hold .exit)) (now (volume .exit)) ≡ after width (geometryOf geometry) circular (listed (length (now (buffer .entry))) (now (list .entry))) (now (volume .entry)) (now (page .entry)) (now (hold .entry)) .world ⌝ }
 {
     let mut world = world::begin(geometry, circular);
     let mut at: usize = 0;
@@ -89,6 +92,7 @@ fn run_list(
             return world;
         }
         world = run_event(
+            width,
             geometry,
             circular,
             world,
@@ -104,9 +108,11 @@ fn run_list(
     world
 }
 
-// Runs a list of events that is lent as bytes, restarts once more with the read client set, and reads to the first FAIL into `out`, each entry with its length before it.
-// Reading ends before it where `out` has no room for a length and a page more: then `used` + 4 + P is more than its length. The list's own reads get `out` as their buffer.
+// Runs a list of events that is lent as bytes, restarts once more with the read client set, and reads to the first FAIL into `out`, each entry with its length
+// before it, a word. Reading ends before it where `out` has no room for a length and a page more: then `used` + `width` + P is more than its length.
+// The list's own reads get `out` as their buffer.
 pub fn run(
+    width: usize,
     geometry: Geometry,
     circular: bool,
     list: &[u8],
@@ -118,13 +124,14 @@ pub fn run(
     hold: &mut [u8],
     out: &mut [u8],
 ) -> Ran
-    ensures { λ r. ⌜ Runs 4 (geometryOf geometry) circular (listed (length (now (out .entry))) (now (list .entry))) (leftOf left) (erasedOf wipe) «append_client» (now (volume .entry)) (now (page .entry)) (now (hold .entry)) (now (out .entry)) (now (volume .exit)) (now (page .exit)) (now (hold .exit)) (now (out .exit)) (ranOf r) ⌝ }
+    ensures { λ r. ⌜ Runs width (geometryOf geometry) circular (listed (length (now (out .entry))) (now (list .entry))) (leftOf left) (erasedOf wipe) «append_client» (now (volume .entry)) (now (page .entry)) (now (hold .entry)) (now (out .entry)) (now (volume .exit)) (now (page .exit)) (now (hold .exit)) (now (out .exit)) (ranOf r) ⌝ }
 {
-    if !check::shape_fits(geometry, volume.len(), page.len(), hold.len()) {
+    if !check::shape_fits(width, geometry, volume.len(), page.len(), hold.len()) {
         return Ran::Shape;
     }
-    let world = run_list(geometry, circular, list, volume, page, hold, out);
+    let world = run_list(width, geometry, circular, list, volume, page, hold, out);
     let done = power::restart_again(
+        width,
         geometry,
         circular,
         world,
@@ -139,7 +146,7 @@ pub fn run(
     let restarted = done.world;
     let log = restarted.log;
     page::bytes::fill(out, 0, 0);
-    let read = entries::read_out(log, volume, page, hold, out);
+    let read = entries::read_out(width, log, volume, page, hold, out);
     let oldest = log.oldest_entry_id;
     let append = log.append_entry_id;
     Ran::Found(Found {

@@ -204,7 +204,15 @@ pub fn front<'a>(buffer: &'a mut [u8], n: usize) -> &'a mut [u8] {
     buffer
 }
 
-pub fn front_words<'a>(buffer: &'a mut [u32], n: usize) -> &'a mut [u32] {
+// The same of words of 4 and of 8 bytes.
+pub fn front_u32<'a>(buffer: &'a mut [u32], n: usize) -> &'a mut [u32] {
+    if n < buffer.len() {
+        return &mut buffer[..n];
+    }
+    buffer
+}
+
+pub fn front_u64<'a>(buffer: &'a mut [u64], n: usize) -> &'a mut [u64] {
     if n < buffer.len() {
         return &mut buffer[..n];
     }

@@ -64,12 +64,12 @@ pub fn bytes(line: &mut [u8], at: usize, bytes: &[u8]) -> usize {
     end
 }
 
-fn wide(id: u32) -> usize {
+fn wide(id: u64) -> usize {
     id as usize
 }
 
 // Words of a survey.
-pub fn words(line: &mut [u8], at: usize, ids: &[u32]) -> usize {
+pub fn words(line: &mut [u8], at: usize, ids: &[u64]) -> usize {
     let mut end = at;
     let mut i: usize = 0;
     while i < ids.len() {

@@ -23,6 +23,7 @@ use flash::operation::Operation;
 use log::state::Geometry;
 
 fn erase(
+    width: usize,
     first_page: usize,
     world: World,
     word: Driver,
@@ -30,15 +31,16 @@ fn erase(
     page: &[u8],
     hold: &[u8],
 ) -> Step
-    ensures { λ r. ⌜ stepOf «first_page» r (now (page .entry)) (now (hold .entry)) (now (volume .entry)) ≡ delivered «first_page» (worldOf world (now (page .entry)) (now (hold .entry)) (now (volume .entry))) unended (erases 4 (worldOf world (now (page .entry)) (now (hold .entry)) (now (volume .entry))) (wordOf word)) (wordOf word) ⌝ }
+    ensures { λ r. ⌜ stepOf «first_page» r (now (page .entry)) (now (hold .entry)) (now (volume .entry)) ≡ delivered «first_page» (worldOf world (now (page .entry)) (now (hold .entry)) (now (volume .entry))) unended (erases width (worldOf world (now (page .entry)) (now (hold .entry)) (now (volume .entry))) (wordOf word)) (wordOf word) ⌝ }
 {
     let log = world.log;
-    let given = erasing::erase::erase(log, volume.len(), page.len(), hold.len(), word);
+    let given = erasing::erase::erase(width, log, volume.len(), page.len(), hold.len(), word);
     world::delivered(world, Ended::Nothing, given, word, first_page)
 }
 
 // An erase completion, after what the erase left.
 pub fn erased(
+    width: usize,
     first_page: usize,
     world: World,
     left: Ended,
@@ -48,15 +50,16 @@ pub fn erased(
     page: &mut [u8],
     hold: &[u8],
 ) -> Step
-    ensures { λ r. ⌜ stepOf «first_page» r (now (page .exit)) (now (hold .entry)) (now (volume .entry)) ≡ delivered «first_page» (worldOf world (now (page .entry)) (now (hold .entry)) (now (volume .entry))) (endedOf left) (eraseCompletes 4 (worldOf world (now (page .entry)) (now (hold .entry)) (now (volume .entry))) good (wordOf word)) (wordOf word) ⌝ }
+    ensures { λ r. ⌜ stepOf «first_page» r (now (page .exit)) (now (hold .entry)) (now (volume .entry)) ≡ delivered «first_page» (worldOf world (now (page .entry)) (now (hold .entry)) (now (volume .entry))) (endedOf left) (eraseCompletes width (worldOf world (now (page .entry)) (now (hold .entry)) (now (volume .entry))) good (wordOf word)) (wordOf word) ⌝ }
 {
     let log = world.log;
-    let given = erasing::erase::erase_complete(log, volume, page, hold, good, word);
+    let given = erasing::erase::erase_complete(width, log, volume, page, hold, good, word);
     world::delivered(world, left, given, word, first_page)
 }
 
 // An erase completion where no erase is under way.
 fn stray(
+    width: usize,
     first_page: usize,
     world: World,
     good: bool,
@@ -65,13 +68,14 @@ fn stray(
     page: &mut [u8],
     hold: &[u8],
 ) -> Step
-    ensures { λ r. ⌜ stepOf «first_page» r (now (page .exit)) (now (hold .entry)) (now (volume .entry)) ≡ strayStep (worldOf world (now (page .entry)) (now (hold .entry)) (now (volume .entry))) (unlessErasing (logOf (world .log) .state)) (delivered «first_page» (worldOf world (now (page .entry)) (now (hold .entry)) (now (volume .entry))) unended (eraseCompletes 4 (worldOf world (now (page .entry)) (now (hold .entry)) (now (volume .entry))) good (wordOf word)) (wordOf word)) ⌝ }
+    ensures { λ r. ⌜ stepOf «first_page» r (now (page .exit)) (now (hold .entry)) (now (volume .entry)) ≡ strayStep (worldOf world (now (page .entry)) (now (hold .entry)) (now (volume .entry))) (unlessErasing (logOf (world .log) .state)) (delivered «first_page» (worldOf world (now (page .entry)) (now (hold .entry)) (now (volume .entry))) unended (eraseCompletes width (worldOf world (now (page .entry)) (now (hold .entry)) (now (volume .entry))) good (wordOf word)) (wordOf word)) ⌝ }
 {
     let log = world.log;
     let state = log.state;
     match gate::unless_erasing(state) {
         Check::Refuse(answer) => {
             erased(
+                width,
                 first_page,
                 world,
                 Ended::Nothing,
@@ -97,6 +101,7 @@ fn erase_leaves(good: bool, left: Erasure) -> Erasure
 }
 
 fn complete(
+    width: usize,
     geometry: Geometry,
     world: World,
     good: bool,
@@ -106,18 +111,19 @@ fn complete(
     page: &mut [u8],
     hold: &[u8],
 ) -> Step
-    ensures { λ r. ⌜ stepOf (geometry .«first_page») r (now (page .exit)) (now (hold .entry)) (now (volume .exit)) ≡ eraseStep 4 (geometry .«page_size») (geometry .«first_page») (worldOf world (now (page .entry)) (now (hold .entry)) (now (volume .entry))) (operationOf (world .operation)) good (erasedOf left) (wordOf word) ⌝ }
+    ensures { λ r. ⌜ stepOf (geometry .«first_page») r (now (page .exit)) (now (hold .entry)) (now (volume .exit)) ≡ eraseStep width (geometry .«page_size») (geometry .«first_page») (worldOf world (now (page .entry)) (now (hold .entry)) (now (volume .entry))) (operationOf (world .operation)) good (erasedOf left) (wordOf word) ⌝ }
 {
     let first = geometry.first_page;
     let operation = world.operation;
     match operation {
-        Operation::Nothing => stray(first, world, good, word, volume, page, hold),
-        Operation::Write(slot) => stray(first, world, good, word, volume, page, hold),
+        Operation::Nothing => stray(width, first, world, good, word, volume, page, hold),
+        Operation::Write(slot) => stray(width, first, world, good, word, volume, page, hold),
         Operation::Erase(slot) => {
             let leaves = erase_leaves(good, left);
             operation::end_erase(volume, geometry.page_size, slot, leaves);
             let ended = world::at_rest(world);
             erased(
+                width,
                 first,
                 ended,
                 Ended::Wiped(leaves),
@@ -133,6 +139,7 @@ fn complete(
 
 // A call that erases, with the power on.
 pub fn run(
+    width: usize,
     geometry: Geometry,
     world: World,
     call: EraseCall,
@@ -140,13 +147,13 @@ pub fn run(
     page: &mut [u8],
     hold: &[u8],
 ) -> Step
-    ensures { λ r. ⌜ ((circular : Bool) → stepOf (geometry .«first_page») r (now (page .exit)) (now (hold .entry)) (now (volume .exit)) ≡ stepOn 4 (geometryOf geometry) circular (worldOf world (now (page .entry)) (now (hold .entry)) (now (volume .entry))) (eraseEvent call)) ⌝ }
+    ensures { λ r. ⌜ ((circular : Bool) → stepOf (geometry .«first_page») r (now (page .exit)) (now (hold .entry)) (now (volume .exit)) ≡ stepOn width (geometryOf geometry) circular (worldOf world (now (page .entry)) (now (hold .entry)) (now (volume .entry))) (eraseEvent call)) ⌝ }
 {
     let first = geometry.first_page;
     match call {
-        EraseCall::Erase(word) => erase(first, world, word, volume, page, hold),
+        EraseCall::Erase(word) => erase(width, first, world, word, volume, page, hold),
         EraseCall::Complete(good, left, word) => {
-            complete(geometry, world, good, left, word, volume, page, hold)
+            complete(width, geometry, world, good, left, word, volume, page, hold)
         }
     }
 }

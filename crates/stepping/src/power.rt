@@ -116,6 +116,7 @@ fn answered(world: World, left: Ended, answer: Restarted) -> Step
 
 // The log restarts with the buffers that are lent.
 pub fn restart(
+    width: usize,
     geometry: Geometry,
     circular: bool,
     world: World,
@@ -126,9 +127,10 @@ pub fn restart(
     page: &mut [u8],
     hold: &[u8],
 ) -> Step
-    ensures { λ r. ⌜ stepOf (geometry .«first_page») r (now (page .exit)) (now (hold .entry)) (now (volume .entry)) ≡ restartStep 4 (geometryOf geometry) circular (worldOf world (now (page .entry)) (now (hold .entry)) (now (volume .entry))) (now (volume .entry)) (endedOf left) «read_client» «append_client» (now (page .entry)) (now (hold .entry)) ⌝ }
+    ensures { λ r. ⌜ stepOf (geometry .«first_page») r (now (page .exit)) (now (hold .entry)) (now (volume .entry)) ≡ restartStep width (geometryOf geometry) circular (worldOf world (now (page .entry)) (now (hold .entry)) (now (volume .entry))) (now (volume .entry)) (endedOf left) «read_client» «append_client» (now (page .entry)) (now (hold .entry)) ⌝ }
 {
     let answer = recovery::restart::restart(
+        width,
         geometry,
         circular,
         read_client,
@@ -142,6 +144,7 @@ pub fn restart(
 
 // The log restarts with new buffers: the first `size` bytes, and the others.
 pub(crate) fn restart_with(
+    width: usize,
     geometry: Geometry,
     circular: bool,
     world: World,
@@ -154,8 +157,8 @@ pub(crate) fn restart_with(
     page: &mut [u8],
     hold: &mut [u8],
 ) -> Step
-    requires { ⌜ shapeFits 4 (geometryOf geometry) (length (now volume)) (length (now page)) (length (now hold)) ≡ true ⌝ }
-    ensures { λ r. ⌜ stepOf (geometry .«first_page») r (now (page .exit)) (now (hold .exit)) (now (volume .entry)) ≡ restartStep 4 (geometryOf geometry) circular (worldOf world (now (page .entry)) (now (hold .entry)) (now (volume .entry))) (now (volume .entry)) (endedOf left) «read_client» «append_client» (take size (now (bytes .entry))) (drop size (now (bytes .entry))) ⌝ }
+    requires { ⌜ shapeFits width (geometryOf geometry) (length (now volume)) (length (now page)) (length (now hold)) ≡ true ⌝ }
+    ensures { λ r. ⌜ stepOf (geometry .«first_page») r (now (page .exit)) (now (hold .exit)) (now (volume .entry)) ≡ restartStep width (geometryOf geometry) circular (worldOf world (now (page .entry)) (now (hold .entry)) (now (volume .entry))) (now (volume .entry)) (endedOf left) «read_client» «append_client» (take size (now (bytes .entry))) (drop size (now (bytes .entry))) ⌝ }
 {
     if size != page.len() {
         return answered(world, left, Restarted::Shape);
@@ -166,6 +169,7 @@ pub(crate) fn restart_with(
     page::store::copy_page(page, &bytes[..size]);
     page::store::copy_page(hold, &bytes[size..]);
     restart(
+        width,
         geometry,
         circular,
         world,
@@ -180,6 +184,7 @@ pub(crate) fn restart_with(
 
 // A restart with the power on: an operation under way ends first.
 pub(crate) fn restart_under(
+    width: usize,
     geometry: Geometry,
     circular: bool,
     world: World,
@@ -193,11 +198,12 @@ pub(crate) fn restart_under(
     page: &mut [u8],
     hold: &mut [u8],
 ) -> Step
-    requires { ⌜ shapeFits 4 (geometryOf geometry) (length (now volume)) (length (now page)) (length (now hold)) ≡ true ⌝ }
-    ensures { λ r. ⌜ stepOf (geometry .«first_page») r (now (page .exit)) (now (hold .exit)) (now (volume .exit)) ≡ restartStep 4 (geometryOf geometry) circular (worldOf world (now (page .entry)) (now (hold .entry)) (now (volume .entry))) (afterEnd (geometry .«page_size») (worldOf world (now (page .entry)) (now (hold .entry)) (now (volume .entry))) (operationOf (world .operation)) (leftOf left) (erasedOf wipe) .volume) (endedBy (operationOf (world .operation)) (leftOf left) (erasedOf wipe)) «read_client» «append_client» (take size (now (bytes .entry))) (drop size (now (bytes .entry))) ⌝ }
+    requires { ⌜ shapeFits width (geometryOf geometry) (length (now volume)) (length (now page)) (length (now hold)) ≡ true ⌝ }
+    ensures { λ r. ⌜ stepOf (geometry .«first_page») r (now (page .exit)) (now (hold .exit)) (now (volume .exit)) ≡ restartStep width (geometryOf geometry) circular (worldOf world (now (page .entry)) (now (hold .entry)) (now (volume .entry))) (afterEnd (geometry .«page_size») (worldOf world (now (page .entry)) (now (hold .entry)) (now (volume .entry))) (operationOf (world .operation)) (leftOf left) (erasedOf wipe) .volume) (endedBy (operationOf (world .operation)) (leftOf left) (erasedOf wipe)) «read_client» «append_client» (take size (now (bytes .entry))) (drop size (now (bytes .entry))) ⌝ }
 {
     let ended = end(geometry.page_size, world, left, wipe, volume, page);
     restart_with(
+        width,
         geometry,
         circular,
         world,
@@ -214,6 +220,7 @@ pub(crate) fn restart_under(
 
 // A further restart, with the buffers as they are; an operation under way ends first.
 pub fn restart_again(
+    width: usize,
     geometry: Geometry,
     circular: bool,
     world: World,
@@ -225,11 +232,12 @@ pub fn restart_again(
     page: &mut [u8],
     hold: &[u8],
 ) -> Step
-    ensures { λ r. ⌜ stepOf (geometry .«first_page») r (now (page .exit)) (now (hold .entry)) (now (volume .exit)) ≡ step 4 (geometryOf geometry) circular (worldOf world (now (page .entry)) (now (hold .entry)) (now (volume .entry))) (event.restart (leftOf left) (erasedOf wipe) «read_client» «append_client» (now (page .entry)) (now (hold .entry))) ⌝ }
+    ensures { λ r. ⌜ stepOf (geometry .«first_page») r (now (page .exit)) (now (hold .entry)) (now (volume .exit)) ≡ step width (geometryOf geometry) circular (worldOf world (now (page .entry)) (now (hold .entry)) (now (volume .entry))) (event.restart (leftOf left) (erasedOf wipe) «read_client» «append_client» (now (page .entry)) (now (hold .entry))) ⌝ }
 {
     if world.power {
         let ended = end(geometry.page_size, world, left, wipe, volume, page);
         return restart(
+            width,
             geometry,
             circular,
             world,
@@ -242,6 +250,7 @@ pub fn restart_again(
         );
     }
     restart(
+        width,
         geometry,
         circular,
         world,

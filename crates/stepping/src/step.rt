@@ -21,6 +21,7 @@ use log::state::Geometry;
 
 // With the power on.
 fn on(
+    width: usize,
     geometry: Geometry,
     circular: bool,
     world: World,
@@ -31,16 +32,17 @@ fn on(
     bytes: &[u8],
     buffer: &mut [u8],
 ) -> Step
-    requires { ⌜ shapeFits 4 (geometryOf geometry) (length (now volume)) (length (now page)) (length (now hold)) ≡ true ⌝ }
-    ensures { λ r. ⌜ stepOf (geometry .«first_page») r (now (page .exit)) (now (hold .exit)) (now (volume .exit)) ≡ bench.stepOn 4 (geometryOf geometry) circular (worldOf world (now (page .entry)) (now (hold .entry)) (now (volume .entry))) (eventOf event (now (bytes .entry)) (length (now (buffer .entry)))) ⌝ }
-    ensures { λ r. ⌜ now (buffer .exit) ≡ eventInto 4 (worldOf world (now (page .entry)) (now (hold .entry)) (now (volume .entry))) event (now (buffer .entry)) ⌝ }
+    requires { ⌜ shapeFits width (geometryOf geometry) (length (now volume)) (length (now page)) (length (now hold)) ≡ true ⌝ }
+    ensures { λ r. ⌜ stepOf (geometry .«first_page») r (now (page .exit)) (now (hold .exit)) (now (volume .exit)) ≡ bench.stepOn width (geometryOf geometry) circular (worldOf world (now (page .entry)) (now (hold .entry)) (now (volume .entry))) (eventOf event (now (bytes .entry)) (length (now (buffer .entry)))) ⌝ }
+    ensures { λ r. ⌜ now (buffer .exit) ≡ eventInto width (worldOf world (now (page .entry)) (now (hold .entry)) (now (volume .entry))) event (now (buffer .entry)) ⌝ }
 {
     match event {
-        Event::Write(call) => writes::run(geometry, world, call, volume, page, hold, bytes),
-        Event::Read(call) => reads::run(geometry, world, call, volume, page, hold, buffer),
-        Event::Erase(call) => erases::run(geometry, world, call, volume, page, hold),
+        Event::Write(call) => writes::run(width, geometry, world, call, volume, page, hold, bytes),
+        Event::Read(call) => reads::run(width, geometry, world, call, volume, page, hold, buffer),
+        Event::Erase(call) => erases::run(width, geometry, world, call, volume, page, hold),
         Event::Cut(left, wipe) => power::cut(geometry.page_size, world, left, wipe, volume, page),
         Event::Restart(left, wipe, read_client, append_client, size) => power::restart_under(
+            width,
             geometry,
             circular,
             world,
@@ -59,6 +61,7 @@ fn on(
 
 // With the power off comes nothing but a restart.
 fn off(
+    width: usize,
     geometry: Geometry,
     circular: bool,
     world: World,
@@ -68,11 +71,12 @@ fn off(
     hold: &mut [u8],
     bytes: &[u8],
 ) -> Step
-    requires { ⌜ shapeFits 4 (geometryOf geometry) (length (now volume)) (length (now page)) (length (now hold)) ≡ true ⌝ }
-    ensures { λ r. ⌜ ((room : ℕ) → stepOf (geometry .«first_page») r (now (page .exit)) (now (hold .exit)) (now (volume .entry)) ≡ bench.stepOff 4 (geometryOf geometry) circular (worldOf world (now (page .entry)) (now (hold .entry)) (now (volume .entry))) (eventOf event (now (bytes .entry)) room)) ⌝ }
+    requires { ⌜ shapeFits width (geometryOf geometry) (length (now volume)) (length (now page)) (length (now hold)) ≡ true ⌝ }
+    ensures { λ r. ⌜ ((room : ℕ) → stepOf (geometry .«first_page») r (now (page .exit)) (now (hold .exit)) (now (volume .entry)) ≡ bench.stepOff width (geometryOf geometry) circular (worldOf world (now (page .entry)) (now (hold .entry)) (now (volume .entry))) (eventOf event (now (bytes .entry)) room)) ⌝ }
 {
     match event {
         Event::Restart(left, wipe, read_client, append_client, size) => power::restart_with(
+            width,
             geometry,
             circular,
             world,
@@ -94,6 +98,7 @@ fn off(
 
 // An event, with the bytes of an append or of a restart's buffers, and the buffer of a read.
 pub fn step(
+    width: usize,
     geometry: Geometry,
     circular: bool,
     world: World,
@@ -104,12 +109,13 @@ pub fn step(
     bytes: &[u8],
     buffer: &mut [u8],
 ) -> Step
-    requires { ⌜ shapeFits 4 (geometryOf geometry) (length (now volume)) (length (now page)) (length (now hold)) ≡ true ⌝ }
-    ensures { λ r. ⌜ stepOf (geometry .«first_page») r (now (page .exit)) (now (hold .exit)) (now (volume .exit)) ≡ bench.step 4 (geometryOf geometry) circular (worldOf world (now (page .entry)) (now (hold .entry)) (now (volume .entry))) (eventOf event (now (bytes .entry)) (length (now (buffer .entry)))) ⌝ }
-    ensures { λ r. ⌜ now (buffer .exit) ≡ stepInto 4 (worldOf world (now (page .entry)) (now (hold .entry)) (now (volume .entry))) event (now (buffer .entry)) ⌝ }
+    requires { ⌜ shapeFits width (geometryOf geometry) (length (now volume)) (length (now page)) (length (now hold)) ≡ true ⌝ }
+    ensures { λ r. ⌜ stepOf (geometry .«first_page») r (now (page .exit)) (now (hold .exit)) (now (volume .exit)) ≡ bench.step width (geometryOf geometry) circular (worldOf world (now (page .entry)) (now (hold .entry)) (now (volume .entry))) (eventOf event (now (bytes .entry)) (length (now (buffer .entry)))) ⌝ }
+    ensures { λ r. ⌜ now (buffer .exit) ≡ stepInto width (worldOf world (now (page .entry)) (now (hold .entry)) (now (volume .entry))) event (now (buffer .entry)) ⌝ }
 {
     if world.power {
         return on(
+            width,
             geometry,
             circular,
             world,
@@ -121,5 +127,15 @@ pub fn step(
             buffer,
         );
     }
-    off(geometry, circular, world, event, volume, page, hold, bytes)
+    off(
+        width,
+        geometry,
+        circular,
+        world,
+        event,
+        volume,
+        page,
+        hold,
+        bytes,
+    )
 }

@@ -23,6 +23,7 @@ use flash::operation::Written;
 use log::state::Geometry;
 
 fn append(
+    width: usize,
     first_page: usize,
     world: World,
     length: usize,
@@ -32,14 +33,15 @@ fn append(
     hold: &mut [u8],
     data: &[u8],
 ) -> Step
-    ensures { λ r. ⌜ stepOf «first_page» r (now (page .exit)) (now (hold .exit)) (now (volume .entry)) ≡ delivered «first_page» (worldOf world (now (page .entry)) (now (hold .entry)) (now (volume .entry))) unended (appends 4 (worldOf world (now (page .entry)) (now (hold .entry)) (now (volume .entry))) (now («data» .entry)) length (wordOf word)) (wordOf word) ⌝ }
+    ensures { λ r. ⌜ stepOf «first_page» r (now (page .exit)) (now (hold .exit)) (now (volume .entry)) ≡ delivered «first_page» (worldOf world (now (page .entry)) (now (hold .entry)) (now (volume .entry))) unended (appends width (worldOf world (now (page .entry)) (now (hold .entry)) (now (volume .entry))) (now («data» .entry)) length (wordOf word)) (wordOf word) ⌝ }
 {
     let log = world.log;
-    let given = writing::append::append(log, volume, page, hold, data, length, word);
+    let given = writing::append::append(width, log, volume, page, hold, data, length, word);
     world::delivered(world, Ended::Nothing, given, word, first_page)
 }
 
 fn sync(
+    width: usize,
     first_page: usize,
     world: World,
     word: Driver,
@@ -47,15 +49,16 @@ fn sync(
     page: &mut [u8],
     hold: &[u8],
 ) -> Step
-    ensures { λ r. ⌜ stepOf «first_page» r (now (page .exit)) (now (hold .entry)) (now (volume .entry)) ≡ delivered «first_page» (worldOf world (now (page .entry)) (now (hold .entry)) (now (volume .entry))) unended (syncs 4 (worldOf world (now (page .entry)) (now (hold .entry)) (now (volume .entry))) (wordOf word)) (wordOf word) ⌝ }
+    ensures { λ r. ⌜ stepOf «first_page» r (now (page .exit)) (now (hold .entry)) (now (volume .entry)) ≡ delivered «first_page» (worldOf world (now (page .entry)) (now (hold .entry)) (now (volume .entry))) unended (syncs width (worldOf world (now (page .entry)) (now (hold .entry)) (now (volume .entry))) (wordOf word)) (wordOf word) ⌝ }
 {
     let log = world.log;
-    let given = writing::sync::sync(log, volume, page, hold, word);
+    let given = writing::sync::sync(width, log, volume, page, hold, word);
     world::delivered(world, Ended::Nothing, given, word, first_page)
 }
 
 // A write completion, after what the write left.
 pub fn written(
+    width: usize,
     first_page: usize,
     world: World,
     left: Ended,
@@ -64,15 +67,16 @@ pub fn written(
     page: &mut [u8],
     hold: &[u8],
 ) -> Step
-    ensures { λ r. ⌜ stepOf «first_page» r (now (page .exit)) (now (hold .entry)) (now (volume .entry)) ≡ delivered «first_page» (worldOf world (now (page .entry)) (now (hold .entry)) (now (volume .entry))) (endedOf left) (writeCompletes 4 (worldOf world (now (page .entry)) (now (hold .entry)) (now (volume .entry))) good) ok ⌝ }
+    ensures { λ r. ⌜ stepOf «first_page» r (now (page .exit)) (now (hold .entry)) (now (volume .entry)) ≡ delivered «first_page» (worldOf world (now (page .entry)) (now (hold .entry)) (now (volume .entry))) (endedOf left) (writeCompletes width (worldOf world (now (page .entry)) (now (hold .entry)) (now (volume .entry))) good) ok ⌝ }
 {
     let log = world.log;
-    let given = completing::write_complete::write_complete(log, volume, page, hold, good);
+    let given = completing::write_complete::write_complete(width, log, volume, page, hold, good);
     world::delivered(world, left, given, Driver::OK, first_page)
 }
 
 // A write completion where no write is under way.
 fn stray(
+    width: usize,
     first_page: usize,
     world: World,
     good: bool,
@@ -80,13 +84,22 @@ fn stray(
     page: &mut [u8],
     hold: &[u8],
 ) -> Step
-    ensures { λ r. ⌜ stepOf «first_page» r (now (page .exit)) (now (hold .entry)) (now (volume .entry)) ≡ strayStep (worldOf world (now (page .entry)) (now (hold .entry)) (now (volume .entry))) (unlessWriting (logOf (world .log) .state)) (delivered «first_page» (worldOf world (now (page .entry)) (now (hold .entry)) (now (volume .entry))) unended (writeCompletes 4 (worldOf world (now (page .entry)) (now (hold .entry)) (now (volume .entry))) good) ok) ⌝ }
+    ensures { λ r. ⌜ stepOf «first_page» r (now (page .exit)) (now (hold .entry)) (now (volume .entry)) ≡ strayStep (worldOf world (now (page .entry)) (now (hold .entry)) (now (volume .entry))) (unlessWriting (logOf (world .log) .state)) (delivered «first_page» (worldOf world (now (page .entry)) (now (hold .entry)) (now (volume .entry))) unended (writeCompletes width (worldOf world (now (page .entry)) (now (hold .entry)) (now (volume .entry))) good) ok) ⌝ }
 {
     let log = world.log;
     let state = log.state;
     match gate::unless_writing(state) {
         Check::Refuse(answer) => {
-            written(first_page, world, Ended::Nothing, good, volume, page, hold)
+            written(
+                width,
+                first_page,
+                world,
+                Ended::Nothing,
+                good,
+                volume,
+                page,
+                hold,
+            )
         }
         Check::Pass => world::undelivered(world),
     }
@@ -103,6 +116,7 @@ fn write_leaves(good: bool, left: Written) -> Written
 }
 
 fn complete(
+    width: usize,
     geometry: Geometry,
     world: World,
     good: bool,
@@ -111,24 +125,34 @@ fn complete(
     page: &mut [u8],
     hold: &[u8],
 ) -> Step
-    ensures { λ r. ⌜ stepOf (geometry .«first_page») r (now (page .exit)) (now (hold .entry)) (now (volume .exit)) ≡ writeStep 4 (geometry .«page_size») (geometry .«first_page») (worldOf world (now (page .entry)) (now (hold .entry)) (now (volume .entry))) (operationOf (world .operation)) good (leftOf left) ⌝ }
+    ensures { λ r. ⌜ stepOf (geometry .«first_page») r (now (page .exit)) (now (hold .entry)) (now (volume .exit)) ≡ writeStep width (geometry .«page_size») (geometry .«first_page») (worldOf world (now (page .entry)) (now (hold .entry)) (now (volume .entry))) (operationOf (world .operation)) good (leftOf left) ⌝ }
 {
     let first = geometry.first_page;
     let operation = world.operation;
     match operation {
-        Operation::Nothing => stray(first, world, good, volume, page, hold),
-        Operation::Erase(slot) => stray(first, world, good, volume, page, hold),
+        Operation::Nothing => stray(width, first, world, good, volume, page, hold),
+        Operation::Erase(slot) => stray(width, first, world, good, volume, page, hold),
         Operation::Write(slot) => {
             let leaves = write_leaves(good, left);
             operation::end_write(volume, geometry.page_size, slot, page, leaves);
             let ended = world::at_rest(world);
-            written(first, ended, Ended::Wrote(leaves), good, volume, page, hold)
+            written(
+                width,
+                first,
+                ended,
+                Ended::Wrote(leaves),
+                good,
+                volume,
+                page,
+                hold,
+            )
         }
     }
 }
 
 // A call that writes, with the power on.
 pub fn run(
+    width: usize,
     geometry: Geometry,
     world: World,
     call: WriteCall,
@@ -137,16 +161,16 @@ pub fn run(
     hold: &mut [u8],
     data: &[u8],
 ) -> Step
-    ensures { λ r. ⌜ ((circular : Bool) → stepOf (geometry .«first_page») r (now (page .exit)) (now (hold .exit)) (now (volume .exit)) ≡ stepOn 4 (geometryOf geometry) circular (worldOf world (now (page .entry)) (now (hold .entry)) (now (volume .entry))) (writeEvent call (now («data» .entry)))) ⌝ }
+    ensures { λ r. ⌜ ((circular : Bool) → stepOf (geometry .«first_page») r (now (page .exit)) (now (hold .exit)) (now (volume .exit)) ≡ stepOn width (geometryOf geometry) circular (worldOf world (now (page .entry)) (now (hold .entry)) (now (volume .entry))) (writeEvent call (now («data» .entry)))) ⌝ }
 {
     let first = geometry.first_page;
     match call {
         WriteCall::Append(length, word) => {
-            append(first, world, length, word, volume, page, hold, data)
+            append(width, first, world, length, word, volume, page, hold, data)
         }
-        WriteCall::Sync(word) => sync(first, world, word, volume, page, hold),
+        WriteCall::Sync(word) => sync(width, first, world, word, volume, page, hold),
         WriteCall::Complete(good, left) => {
-            complete(geometry, world, good, left, volume, page, hold)
+            complete(width, geometry, world, good, left, volume, page, hold)
         }
     }
 }

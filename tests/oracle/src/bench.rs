@@ -4,25 +4,21 @@ use crate::flash::{Clients, Driver, Page, Request, number};
 use crate::lent::Lent;
 use crate::log::Log;
 use crate::memory::Volume;
-use crate::script::{Bad, Call, Fill, Left, Restart, VOLUME_MOST, Word, bad};
+use crate::script::{Bad, Call, Fill, Left, Restart, Sizes, VOLUME_MOST, WIDTH, Word, bad};
 use kernel::deferred_call::{self, DeferredCallClient};
 use kernel::hil::flash::{Client, Error};
 use kernel::hil::log::{LogRead, LogWrite};
 use std::io::Write;
 use std::panic::{AssertUnwindSafe, catch_unwind};
 
-pub struct Sizes {
-    pub page_size: usize,
-    pub count: usize,
-    pub first: usize,
-    pub circular: bool,
-}
-
 impl Sizes {
     /// The sizes that document 01 admits. The Rust has no refusal for others.
     pub fn check(self) -> Result<Sizes, Bad> {
-        if !(16..=4096).contains(&self.page_size) || !self.page_size.is_power_of_two() {
-            return bad("for the Rust the page size is a power of two from 16 to 4096");
+        let least = 4 * WIDTH;
+        if !(least..=4096).contains(&self.page_size) || !self.page_size.is_power_of_two() {
+            return bad(format!(
+                "for the Rust the page size is a power of two from {least} to 4096"
+            ));
         }
         if !(1..=4096).contains(&self.count) || self.first > 16777215 {
             return bad(

@@ -13,9 +13,9 @@ mod log;
 mod memory;
 mod script;
 
-use bench::{Bench, Sizes};
+use bench::Bench;
 use flash::{Clients, Driver};
-use script::{Bad, Line, bad};
+use script::{Bad, Line, Sizes, bad};
 use std::io::{self, BufRead, Write};
 use std::process::ExitCode;
 
@@ -45,27 +45,11 @@ impl Oracle {
         if let Line::Nothing = line {
             return Ok(());
         }
-        if self.interactive && matches!(line, Line::Sizes { .. }) {
+        if self.interactive && matches!(line, Line::Sizes(_)) {
             self.stage = Stage::Start;
         }
         self.stage = match (std::mem::replace(&mut self.stage, Stage::Between), line) {
-            (
-                Stage::Start,
-                Line::Sizes {
-                    page_size,
-                    count,
-                    first,
-                    circular,
-                },
-            ) => Stage::Sized(
-                Sizes {
-                    page_size,
-                    count,
-                    first,
-                    circular,
-                }
-                .check()?,
-            ),
+            (Stage::Start, Line::Sizes(sizes)) => Stage::Sized(sizes.check()?),
             (Stage::Sized(sizes), Line::Fill(fill)) => {
                 let volume = sizes.fill(fill)?;
                 Stage::Filled(Bench::new(sizes, &volume, self.driver, self.clients))

@@ -24,15 +24,18 @@ pub enum Fill {
     All(u8),
 }
 
+/// The first line, of a script whose width is this Rust's.
+pub struct Sizes {
+    pub page_size: usize,
+    pub count: usize,
+    pub first: usize,
+    pub circular: bool,
+}
+
 pub enum Line {
     /// An empty line or a comment.
     Nothing,
-    Sizes {
-        page_size: usize,
-        count: usize,
-        first: usize,
-        circular: bool,
-    },
+    Sizes(Sizes),
     Fill(Fill),
     Restart(Restart),
     /// What the operation under way leaves, if there is one.
@@ -104,6 +107,8 @@ pub fn bad<T>(what: impl Into<String>) -> Result<T, Bad> {
     Err(Bad(what.into()))
 }
 
+/// The bytes of a word of this Rust: a script must have the same width.
+pub const WIDTH: usize = size_of::<usize>();
 /// The longest page, hold or client buffer.
 const BUFFER_MOST: usize = 8192;
 /// The longest volume.
@@ -184,6 +189,27 @@ fn mode(word: &str) -> Result<bool, Bad> {
     }
 }
 
+/// A script says the width of its board's words.
+fn own_width(word: &str) -> Result<(), Bad> {
+    match number(word)? {
+        width if width == WIDTH => Ok(()),
+        width @ (4 | 8) => bad(format!(
+            "words of {width} bytes, but this Rust has words of {WIDTH}"
+        )),
+        width => bad(format!("a width of {width}: it is 4 or 8")),
+    }
+}
+
+fn sizes(page_size: &str, count: &str, first: &str, kind: &str, width: &str) -> Result<Sizes, Bad> {
+    own_width(width)?;
+    Ok(Sizes {
+        page_size: number(page_size)?,
+        count: number(count)?,
+        first: number(first)?,
+        circular: mode(kind)?,
+    })
+}
+
 fn good(word: &str) -> Result<bool, Bad> {
     match word {
         "ok" => Ok(true),
@@ -244,12 +270,10 @@ pub fn parse(line: &str) -> Result<Line, Bad> {
     let words: Vec<&str> = line.split(' ').collect();
     let call = match words[..] {
         ["sizes", page_size, count, first, kind] => {
-            return Ok(Line::Sizes {
-                page_size: number(page_size)?,
-                count: number(count)?,
-                first: number(first)?,
-                circular: mode(kind)?,
-            });
+            return Ok(Line::Sizes(sizes(page_size, count, first, kind, "4")?));
+        }
+        ["sizes", page_size, count, first, kind, width] => {
+            return Ok(Line::Sizes(sizes(page_size, count, first, kind, width)?));
         }
         ["volume", "all", value] => {
             return match u8::try_from(number(value)?) {

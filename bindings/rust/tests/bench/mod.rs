@@ -1,9 +1,32 @@
-//! A flash in memory, and numbers from a seed.
-#![allow(dead_code)]
+//! A flash in memory, numbers from a seed, and both boards.
+#![allow(dead_code, unused_macros, unused_imports)]
 
 pub mod model;
 
-use punelovash::{DriverWord, Geometry, PageNumber, Request};
+use punelovash::{DriverWord, Geometry, PageNumber, Request, Word};
+
+/// Tests that are functions of the board's words, on both boards.
+macro_rules! on_both_boards {
+    ($($test:ident)*) => {
+        mod words_of_4_bytes {
+            $(#[test] fn $test() { super::$test::<u32>() })*
+        }
+        mod words_of_8_bytes {
+            $(#[test] fn $test() { super::$test::<u64>() })*
+        }
+    };
+}
+pub(crate) use on_both_boards;
+
+/// The most data that an entry has in a page of `p` bytes: it fills the page.
+pub fn full<W: Word>(p: usize) -> usize {
+    p - 2 * W::BYTES
+}
+
+/// A number as a word on flash or in a block.
+pub fn put_word<W: Word>(bytes: &mut [u8], at: usize, number: u64) {
+    bytes[at..][..W::BYTES].copy_from_slice(&number.to_le_bytes()[..W::BYTES]);
+}
 
 /// What an operation that failed or was cut has left. A write that ends well leaves the new page, an erase all 0xFF.
 #[derive(Clone, Copy, Debug, PartialEq, Eq)]

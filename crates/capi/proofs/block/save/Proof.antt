@@ -29,7 +29,7 @@ same-length c = search needs
 returns : tie.Need-returns
 returns c =
     let a = c .before .before .before .before .before .before .before .before .before .before .before .before .before .before .before .args in
-    (c .answer-number .ensures, saves (outcomeOf (a .given)) (a .block .now) (c .before .before .before .before .before .before .before .before .before .before .before .save-log .ensures) (c .before .before .before .before .before .before .before .save-report .ensures) (c .before .before .before .save-request .ensures))
+    (c .answer-number .ensures, saves (a .width) (outcomeOf (a .given)) (a .block .now) (c .before .before .before .before .before .before .before .before .before .before .before .save-log .ensures) (c .before .before .before .before .before .before .before .save-report .ensures) (c .before .before .before .save-request .ensures))
 
 pub save-spec : {M : Type 1} → statement M
 save-spec =

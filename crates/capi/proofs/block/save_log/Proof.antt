@@ -11,17 +11,32 @@ state-number-requires c κs = search needs
 put-byte-requires : tie.Need-put-byte-requires
 put-byte-requires c κs = search needs
 
-put-word-requires : tie.Need-put-word-requires
-put-word-requires c κs = search needs
+write-word-requires : tie.Need-write-word-requires
+write-word-requires c κs = search needs
 
-put-word-requires-2 : tie.Need-put-word-requires-2
-put-word-requires-2 c κs = search needs
+add-write-word : tie.Need-add-write-word
+add-write-word c = search needs
 
-put-word-requires-3 : tie.Need-put-word-requires-3
-put-word-requires-3 c κs = search needs
+write-word-requires-2 : tie.Need-write-word-requires-2
+write-word-requires-2 c κs = search needs
 
-put-word-requires-4 : tie.Need-put-word-requires-4
-put-word-requires-4 c κs = search needs
+mul-write-word : tie.Need-mul-write-word
+mul-write-word c = search needs
+
+add-write-word-2 : tie.Need-add-write-word-2
+add-write-word-2 c = search needs
+
+write-word-requires-3 : tie.Need-write-word-requires-3
+write-word-requires-3 c κs = search needs
+
+mul-write-word-2 : tie.Need-mul-write-word-2
+mul-write-word-2 c = search needs
+
+add-write-word-3 : tie.Need-add-write-word-3
+add-write-word-3 c = search needs
+
+write-word-requires-4 : tie.Need-write-word-requires-4
+write-word-requires-4 c κs = search needs
 
 same-length : tie.Need-same-length
 same-length c = search needs
@@ -30,14 +45,15 @@ returns : tie.Need-returns
 returns c =
     let a = c .before .before .before .before .before .before .before .before .before .before .before .before .before .before .before .before .before .before .before .before .before .before .args in
     puts-log
+    (a .width)
     (logOf (a .log))
     (a .block .now)
     (c .before .before .before .before .before .before .before .before .before .before .before .before .before .before .before .before .before .before .before .state-number .ensures)
     (c .before .before .before .before .before .before .before .before .before .before .before .before .before .before .before .before .before .before .put-byte .ensures)
-    (c .before .before .before .before .before .before .before .before .before .before .before .before .before .before .put-word .ensures)
-    (c .before .before .before .before .before .before .before .before .before .before .put-word2 .ensures)
-    (c .before .before .before .before .before .before .put-word3 .ensures)
-    (c .before .before .put-word4 .ensures)
+    (c .before .before .before .before .before .before .before .before .before .before .before .before .before .before .write-word .ensures)
+    (c .before .before .before .before .before .before .before .before .before .before .write-word2 .ensures)
+    (c .before .before .before .before .before .before .write-word3 .ensures)
+    (c .before .before .write-word4 .ensures)
 
 pub save-log-spec : {M : Type 1} → statement M
 save-log-spec =
@@ -45,9 +61,14 @@ save-log-spec =
     (tie.spec
     state-number-requires
     put-byte-requires
-    put-word-requires
-    put-word-requires-2
-    put-word-requires-3
-    put-word-requires-4
+    write-word-requires
+    add-write-word
+    write-word-requires-2
+    mul-write-word
+    add-write-word-2
+    write-word-requires-3
+    mul-write-word-2
+    add-write-word-3
+    write-word-requires-4
     same-length
     returns)

@@ -6,14 +6,14 @@ use borrow.Author.Needs.{needs}
 use Rattle.capi.proofs.block.save_sizes.Statement.{statement}
 use Rattle.capi.proofs.block.save_sizes.Tie as tie
 
-put-word-requires : tie.Need-put-word-requires
-put-word-requires c κs = search needs
+write-word-requires : tie.Need-write-word-requires
+write-word-requires c κs = search needs
 
-put-word-requires-2 : tie.Need-put-word-requires-2
-put-word-requires-2 c κs = search needs
+write-word-requires-2 : tie.Need-write-word-requires-2
+write-word-requires-2 c κs = search needs
 
-put-word-requires-3 : tie.Need-put-word-requires-3
-put-word-requires-3 c κs = search needs
+write-word-requires-3 : tie.Need-write-word-requires-3
+write-word-requires-3 c κs = search needs
 
 flag-requires : tie.Need-flag-requires
 flag-requires c κs = search needs
@@ -59,9 +59,9 @@ returns c =
     (a .read-client)
     (a .append-client)
     (a .block .now)
-    (c .before .before .before .before .before .before .before .before .before .before .before .before .before .before .before .before .before .put-word .ensures)
-    (c .before .before .before .before .before .before .before .before .before .before .before .before .before .put-word2 .ensures)
-    (c .before .before .before .before .before .before .before .before .before .put-word3 .ensures)
+    (c .before .before .before .before .before .before .before .before .before .before .before .before .before .before .before .before .before .write-word .ensures)
+    (c .before .before .before .before .before .before .before .before .before .before .before .before .before .write-word2 .ensures)
+    (c .before .before .before .before .before .before .before .before .before .write-word3 .ensures)
     (c .before .before .before .before .before .flag .ensures)
     (c .before .before .before .before .flag2 .ensures)
     (c .before .before .before .flag3 .ensures)
@@ -71,9 +71,9 @@ pub save-sizes-spec : {M : Type 1} → statement M
 save-sizes-spec =
     tie.close
     (tie.spec
-    put-word-requires
-    put-word-requires-2
-    put-word-requires-3
+    write-word-requires
+    write-word-requires-2
+    write-word-requires-3
     flag-requires
     flag-requires-2
     mul-put-byte

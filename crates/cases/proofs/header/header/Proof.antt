@@ -5,6 +5,15 @@ use borrow.Author.Needs.{needs}
 use Rattle.cases.proofs.header.header.Statement.{statement}
 use Rattle.cases.proofs.header.header.Tie as tie
 
+board-requires : tie.Need-board-requires
+board-requires c κs = search needs
+
+mul-p : tie.Need-mul-p
+mul-p c = search needs
+
+mul-if1 : tie.Need-mul-if1
+mul-if1 c = search needs
+
 returns : tie.Need-returns
 returns c = search needs
 
@@ -15,7 +24,7 @@ label-requires : tie.Need-label-requires
 label-requires c κs = search needs
 
 page-header-requires : tie.Need-page-header-requires
-page-header-requires c κs = (sizes, omega arith, omega arith)
+page-header-requires c κs = (sizes (c .before .before .before .board .ensures), omega arith, omega arith)
 
 enum-known-id : tie.Need-enum-known-id
 enum-known-id c = search needs
@@ -42,6 +51,9 @@ pub header-spec : {M : Type 1} → statement M
 header-spec =
     tie.close
     (tie.spec
+    board-requires
+    mul-p
+    mul-if1
     returns
     returns-2
     label-requires

@@ -5,6 +5,15 @@ use borrow.Author.Needs.{needs}
 use Rattle.cases.proofs.header.span.Statement.{statement}
 use Rattle.cases.proofs.header.span.Tie as tie
 
+board-requires : tie.Need-board-requires
+board-requires c κs = search needs
+
+mul-p : tie.Need-mul-p
+mul-p c = search needs
+
+mul-if1 : tie.Need-mul-if1
+mul-if1 c = search needs
+
 returns : tie.Need-returns
 returns c = search needs
 
@@ -12,7 +21,7 @@ label-requires : tie.Need-label-requires
 label-requires c κs = search needs
 
 page-span-requires : tie.Need-page-span-requires
-page-span-requires c κs = (sizes, omega arith)
+page-span-requires c κs = (sizes (c .before .before .board .ensures), omega arith)
 
 enum-known-oldest : tie.Need-enum-known-oldest
 enum-known-oldest c = search needs
@@ -42,6 +51,9 @@ pub span-spec : {M : Type 1} → statement M
 span-spec =
     tie.close
     (tie.spec
+    board-requires
+    mul-p
+    mul-if1
     returns
     label-requires
     page-span-requires

@@ -14,16 +14,13 @@ shared-slice-read-event-from-2 c = search needs
 read-word-requires : tie.Need-read-word-requires
 read-word-requires c κs = search needs
 
-cast-event-from : tie.Need-cast-event-from
-cast-event-from c = search needs
-
 event-from-requires : tie.Need-event-from-requires
 event-from-requires c κs = search needs
 
 returns : tie.Need-returns
 returns c bytes room =
     let a = c .before .before .before .before .before .args in
-    let word : c .before .read-word .result ≡ wordAt 4 (a .list .now) 2 = c .before .read-word .ensures in
+    let word : c .before .read-word .result ≡ wordAt 8 (a .list .now) 2 = c .before .read-word .ensures in
     rw (← word) (c .event-from .ensures bytes room)
 
 pub event-spec : {M : Type 1} → statement M
@@ -33,6 +30,5 @@ event-spec =
     shared-slice-read-event-from
     shared-slice-read-event-from-2
     read-word-requires
-    cast-event-from
     event-from-requires
     returns)

@@ -19,11 +19,11 @@ none s h = (rw (incomplete s h), omega arith)
 returns : tie.Need-returns
 returns c =
     let a = c .before .before .args in
-    let short : length (a .list .now) < 10 = c .if1 .taken in
+    let short : length (a .list .now) < 14 = c .if1 .taken in
     none (a .list .now) (omega (arith, short, size-some (a .list .now)))
 
-read-word-requires : tie.Need-read-word-requires
-read-word-requires c κs = search needs
+read-four-requires : tie.Need-read-four-requires
+read-four-requires c κs = search needs
 
 cast-size : tie.Need-cast-size
 cast-size c = search needs
@@ -31,23 +31,23 @@ cast-size c = search needs
 add-size : tie.Need-add-size
 add-size c = search needs
 
-size : (s : List ℕ) (n : ℕ) → n ≡ wordAt 4 s 6 → 10 + n ≡ eventSize s
+size : (s : List ℕ) (n : ℕ) → n ≡ wordAt 4 s 10 → 14 + n ≡ eventSize s
 unfolding eventSize
 size s n e = rw e
 
 returns-2 : tie.Need-returns-2
 returns-2 c =
     let a = c .before .before .before .before .args in
-    let short : length (a .list .now) < 10 + c .before .read-word .result = c .if2 .taken in
-    none (a .list .now) (omega (arith, short, size (a .list .now) (c .before .read-word .result) (c .before .read-word .ensures)))
+    let short : length (a .list .now) < 14 + c .before .read-four .result = c .if2 .taken in
+    none (a .list .now) (omega (arith, short, size (a .list .now) (c .before .read-four .result) (c .before .read-four .ensures)))
 
 returns-3 : tie.Need-returns-3
 returns-3 c =
     let a = c .before .before .before .before .args in
-    let fits : 10 + c .before .read-word .result ≤ length (a .list .now) = c .if2 .left in
-    let e = size (a .list .now) (c .before .read-word .result) (c .before .read-word .ensures) in
+    let fits : 14 + c .before .read-four .result ≤ length (a .list .now) = c .if2 .left in
+    let e = size (a .list .now) (c .before .read-four .result) (c .before .read-four .ensures) in
     (rw (is-complete (a .list .now) (omega (arith, fits, e))) e, fits)
 
 pub event-size-spec : {M : Type 1} → statement M
 event-size-spec =
-    tie.close (tie.spec returns read-word-requires cast-size add-size returns-2 returns-3)
+    tie.close (tie.spec returns read-four-requires cast-size add-size returns-2 returns-3)

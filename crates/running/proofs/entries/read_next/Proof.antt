@@ -3,11 +3,10 @@ use Prim.Native.Nat.{_+_, _≤_}
 use mathlib.Core.Path.{_≡_, refl, sym, ap, _∙_}
 use native.Mathlib.Omega.{arith}
 use lib.ListN.{length}
-use Rattle.page.specs.Sizes.{four}
 use Rattle.log.specs.Answer.{OK, number}
 use Rattle.log.specs.Log.{logOf}
 use Rattle.running.specs.Entries.{full, stops}
-use Rattle.running.proofs.NextLaw.{next-stops, next-small, next-reads}
+use Rattle.running.proofs.NextLaw.{next-stops, next-reads}
 use borrow.Author.Needs.{needs}
 use Rattle.running.proofs.entries.read_next.Statement.{statement}
 use Rattle.running.proofs.entries.read_next.Tie as tie
@@ -40,22 +39,17 @@ same-length : tie.Need-same-length
 same-length c = search needs
 
 -- there is room for a word and a page
-room : (c : tie.Else2) → (let a = c .before .before .before .before .before .before .args in 4 + a .log .geometry .«page_size» ≤ length (a .out .now))
+room : (c : tie.Else2) → (let a = c .before .before .before .before .before .before .args in a .width + a .log .geometry .«page_size» ≤ length (a .out .now))
 room c = omega (arith, c .if2 .left, c .before .if1 .left)
 
 returns-3 : tie.Need-returns-3
 returns-3 c =
-    next-stops 4 _ _ _ _ (c .before .before .before .before .before .before .before .before .before .before .before .before .pre) (room (c .before .before .before .before .before .before)) (c .before .before .before .before .read .ensures)
+    next-stops _ _ _ _ _ (c .before .before .before .before .before .before .before .before .before .before .before .before .pre .1) (room (c .before .before .before .before .before .before)) (c .before .before .before .before .read .ensures)
     (λ q. c .if3 .taken (c .before .answer-number .ensures ∙ q))
 
 -- the read is answered OK
 ok : (c : tie.Else3) → number (c .before .before .before .before .read .result .answer) ≡ OK
 ok c = sym (c .before .answer-number .ensures) ∙ c .if3 .left
-
-cast-write-word : tie.Need-cast-write-word
-cast-write-word c =
-    let small = next-small 4 _ _ _ _ (c .before .before .before .before .before .before .before .before .before .before .before .before .before .before .pre) (room (c .before .before .before .before .before .before .before .before)) (c .before .before .before .before .before .before .read .ensures) four (ok (c .before .before)) in
-    omega (arith, small)
 
 write-word-requires : tie.Need-write-word-requires
 write-word-requires c κs = search needs
@@ -68,7 +62,7 @@ same-length-2 c = search needs
 
 returns-4 : tie.Need-returns-4
 returns-4 c =
-    next-reads 4 _ _ _ _ (c .before .before .before .before .before .before .before .before .before .before .before .before .before .before .before .before .before .before .before .pre) (room (c .before .before .before .before .before .before .before .before .before .before .before .before .before)) (c .before .before .before .before .before .before .before .before .before .before .before .read .ensures) four (ok (c .before .before .before .before .before .before .before))
+    next-reads _ _ _ _ _ (c .before .before .before .before .before .before .before .before .before .before .before .before .before .before .before .before .before .before .before .pre .1) (room (c .before .before .before .before .before .before .before .before .before .before .before .before .before)) (c .before .before .before .before .before .before .before .before .before .before .before .read .ensures) (ok (c .before .before .before .before .before .before .before))
     (ap (λ o. o .log) (c .before .handle-deferred-call .ensures)) refl (c .before .before .before .before .write-word .ensures)
 
 pub read-next-spec : {M : Type 1} → statement M
@@ -85,7 +79,6 @@ read-next-spec =
     answer-number-requires
     same-length
     returns-3
-    cast-write-word
     write-word-requires
     handle-deferred-call-requires
     same-length-2

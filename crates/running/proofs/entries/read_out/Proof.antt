@@ -3,7 +3,6 @@ use Prim.Native.Nat.{_-_}
 use mathlib.Core.Path.{ap}
 use native.Mathlib.Omega.{arith}
 use lib.ListN.{length}
-use Rattle.page.specs.Sizes.{four}
 use Rattle.log.specs.Log.{logOf}
 use Rattle.running.specs.Entries.{nextOf}
 use Rattle.running.proofs.OutLaw.{Sofar, entered, ended, sofar-starts, sofar-zeros, sofar-goes, sofar-ends}
@@ -12,13 +11,13 @@ use Rattle.running.proofs.entries.read_out.Statement.{statement}
 use Rattle.running.proofs.entries.read_out.Tie as tie
 
 abbrev Inv-loop : tie.InvT-loop
-Inv-loop volume page hold out₀ current₀ count₀ at₀ out current count at = Sofar 4 volume page hold (logOf current₀) (length out₀) out (logOf current) count at
+Inv-loop width volume page hold out₀ current₀ count₀ at₀ out current count at = Sofar width volume page hold (logOf current₀) (length out₀) out (logOf current) count at
 
 abbrev μ-loop : tie.MeasureT-loop
-μ-loop volume page hold out₀ current₀ count₀ at₀ out current count at = length out₀ - at
+μ-loop width volume page hold out₀ current₀ count₀ at₀ out current count at = length out₀ - at
 
 loop-holds : tie.Need-loop-holds Inv-loop μ-loop
-loop-holds c = sofar-starts _ _ (c .before .before .before .before .pre)
+loop-holds c = sofar-starts _ _ (c .before .before .before .before .pre .1)
 
 sub-read-next : tie.Need-sub-read-next Inv-loop μ-loop
 sub-read-next c = omega (arith, c .loop .inv .fits, c .loop .inv .size)
@@ -30,7 +29,7 @@ part-read-next-end : tie.Need-part-read-next-end Inv-loop μ-loop
 part-read-next-end c = search needs
 
 read-next-requires : tie.Need-read-next-requires Inv-loop μ-loop
-read-next-requires c κs = sofar-zeros (c .before .loop .inv)
+read-next-requires c κs = (c .before .before .before .before .before .before .pre .0, sofar-zeros (c .before .loop .inv))
 
 enum-told : tie.Need-enum-told Inv-loop μ-loop
 enum-told c = search needs
@@ -39,16 +38,16 @@ enum-known-next : tie.Need-enum-known-next Inv-loop μ-loop
 enum-known-next c = search needs
 
 loop-again : tie.Need-loop-again Inv-loop μ-loop
-loop-again c = sofar-goes (c .before .before .before .before .before .before .before .loop .inv) four (entered (c .before .before .before .before .before .read-next .ensures) (ap nextOf (c .before .next .given .1)))
+loop-again c = sofar-goes (c .before .before .before .before .before .before .before .loop .inv) (c .before .before .before .before .before .before .before .before .before .before .before .before .pre .0) (entered (c .before .before .before .before .before .read-next .ensures) (ap nextOf (c .before .next .given .1)))
 
 add-count : tie.Need-add-count Inv-loop μ-loop
-add-count c = let s = loop-again c in omega (arith, s .few, s .fits, c .before .before .before .before .before .before .before .before .before .before .before .before .good .1 .1 .1 .1 .0 .0)
+add-count c = let s = loop-again c in omega (arith, s .few, s .fits, c .before .before .before .before .before .before .before .before .before .before .before .before .good .1 .1 .1 .1 .1 .0 .0)
 
 add-at : tie.Need-add-at Inv-loop μ-loop
-add-at c = let s = loop-again c in omega (arith, s .fits, c .before .before .before .before .before .before .before .before .before .before .before .before .good .1 .1 .1 .1 .0 .0)
+add-at c = let s = loop-again c in omega (arith, s .fits, c .before .before .before .before .before .before .before .before .before .before .before .before .good .1 .1 .1 .1 .1 .0 .0)
 
 add-at-2 : tie.Need-add-at-2 Inv-loop μ-loop
-add-at-2 c = let s = loop-again c in omega (arith, s .fits, c .before .before .before .before .before .before .before .before .before .before .before .before .good .1 .1 .1 .1 .0 .0)
+add-at-2 c = let s = loop-again c in omega (arith, s .fits, c .before .before .before .before .before .before .before .before .before .before .before .before .good .1 .1 .1 .1 .1 .0 .0)
 
 loop-less : tie.Need-loop-less Inv-loop μ-loop
 loop-less c = let s = loop-again c in omega (arith, s .fits)

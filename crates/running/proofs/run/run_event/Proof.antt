@@ -42,8 +42,8 @@ returns c =
     let a = b .args in
     let e = c .before .before .before .before .before .before .before .before .before .before .before .before .before .before .before .event .ensures in
     let d = c .before .before .before .before .before .before .before .before .before .step in
-    event-runs (geometryOf (a .geometry)) (a .circular) (worldOf (a .world) (a .page .now) (a .hold .now) (a .volume .now)) (length (a .buffer .now)) (a .size) (a .list .now)
-    {s = stepOf (a .geometry .«first_page») (d .result) (d .last .1 .1 .1 .1 .1 .0) (d .last .1 .1 .1 .1 .1 .1 .0) (d .last .1 .1 .1 .1 .0)} (b .pre .2) (e _ _) (d .ensures .0)
+    event-runs (a .width) (geometryOf (a .geometry)) (a .circular) (worldOf (a .world) (a .page .now) (a .hold .now) (a .volume .now)) (length (a .buffer .now)) (a .size) (a .list .now)
+    {s = stepOf (a .geometry .«first_page») (d .result) (d .last .1 .1 .1 .1 .1 .1 .0) (d .last .1 .1 .1 .1 .1 .1 .1 .0) (d .last .1 .1 .1 .1 .1 .0)} (b .pre .2) (e _ _) (d .ensures .0)
 
 pub run-event-spec : {M : Type 1} → statement M
 run-event-spec =

@@ -12,11 +12,11 @@ use Rattle.running.proofs.run.run_list.Statement.{statement}
 use Rattle.running.proofs.run.run_list.Tie as tie
 
 abbrev Inv-loop : tie.InvT-loop
-Inv-loop geometry circular list volume₀ page₀ hold₀ buffer₀ world₀ at₀ volume page hold buffer world at =
-    Upto (geometryOf geometry) circular list volume₀ page₀ hold₀ (length buffer₀) (worldOf world page hold volume) buffer at
+Inv-loop width geometry circular list volume₀ page₀ hold₀ buffer₀ world₀ at₀ volume page hold buffer world at =
+    Upto width (geometryOf geometry) circular list volume₀ page₀ hold₀ (length buffer₀) (worldOf world page hold volume) buffer at
 
 abbrev μ-loop : tie.MeasureT-loop
-μ-loop geometry circular list volume₀ page₀ hold₀ buffer₀ world₀ at₀ volume page hold buffer world at = length list - at
+μ-loop width geometry circular list volume₀ page₀ hold₀ buffer₀ world₀ at₀ volume page hold buffer world at = length list - at
 
 begin-requires : tie.Need-begin-requires Inv-loop μ-loop
 begin-requires c κs = search needs
@@ -61,12 +61,12 @@ loop-again c =
     let l = c .before .before .before .before .before .before .before .before .before .before .before .before .before .before .before .before .before .loop in
     let r = c .before .before .before .before .before .before .before .before .run-event in
     let k = r .kept in
-    upto-goes (l .inv) (worldOf (r .result) (r .last .1 .1 .1 .1 .1 .1 .0) (r .last .1 .1 .1 .1 .1 .1 .1 .0) (r .last .1 .1 .1 .1 .1 .0)) (part-to-end (c .before .before .before .before .before .before .before .before .before .before .before .before .before .before .before .before .before .before .before .before .before .before .before .before .args .list .now) (l .at))
+    upto-goes (l .inv) (worldOf (r .result) (r .last .1 .1 .1 .1 .1 .1 .1 .0) (r .last .1 .1 .1 .1 .1 .1 .1 .1 .0) (r .last .1 .1 .1 .1 .1 .1 .0)) (part-to-end (c .before .before .before .before .before .before .before .before .before .before .before .before .before .before .before .before .before .before .before .before .before .before .before .before .args .list .now) (l .at))
     (size-found _ _ (c .before .before .before .before .before .before .before .before .before .before .before .before .before .before .event-size .ensures .0) (c .before .before .before .before .before .before .before .before .before .before .before .before .before .if1 .left)) (r .ensures)
-    (k .1 .1 .1 .1 .1 .0) (k .1 .1 .1 .1 .1 .1 .0) (k .1 .1 .1 .1 .1 .1 .1 .0) (k .1 .1 .1 .1 .1 .1 .1 .1 .0)
+    (k .1 .1 .1 .1 .1 .1 .0) (k .1 .1 .1 .1 .1 .1 .1 .0) (k .1 .1 .1 .1 .1 .1 .1 .1 .0) (k .1 .1 .1 .1 .1 .1 .1 .1 .1 .0)
 
 add-at : tie.Need-add-at Inv-loop μ-loop
-add-at c = let u = loop-again c in omega (arith, u .within, c .before .before .before .before .before .before .before .before .before .before .before .before .before .before .before .before .before .before .before .before .before .before .before .before .good .1 .1 .0 .0)
+add-at c = let u = loop-again c in omega (arith, u .within, c .before .before .before .before .before .before .before .before .before .before .before .before .before .before .before .before .before .before .before .before .before .before .before .before .good .1 .1 .1 .0 .0)
 
 loop-less : tie.Need-loop-less Inv-loop μ-loop
 loop-less c = let u = loop-again c in omega (arith, u .within, c .before .before .before .before .before .before .before .before .before .before .before .before .before .if1 .left)

@@ -5,6 +5,9 @@ use borrow.Author.Needs.{needs}
 use Rattle.say.proofs.build.sevens.Statement.{statement}
 use Rattle.say.proofs.build.sevens.Tie as tie
 
+board-requires : tie.Need-board-requires
+board-requires c κs = search needs
+
 returns : tie.Need-returns
 returns c = search needs
 
@@ -30,7 +33,7 @@ slice-aggregate-write-entry : tie.Need-slice-aggregate-write-entry
 slice-aggregate-write-entry c = simp length-take (omega arith)
 
 write-entry-requires : tie.Need-write-entry-requires
-write-entry-requires c κs = simp length-take (omega arith)
+write-entry-requires c κs = (omega arith, simp length-take (omega arith))
 
 add-result : tie.Need-add-result
 add-result c = search needs
@@ -48,6 +51,7 @@ pub sevens-spec : {M : Type 1} → statement M
 sevens-spec =
     tie.close
     (tie.spec
+    board-requires
     returns
     add-if2
     returns-2

@@ -47,7 +47,7 @@ returns c =
     let a = c .before .before .before .before .before .before .before .before .before .before .args in
     let x = worldOf (a .world) (a .page .now) (a .hold .now) (a .volume .now) in
     let now = ap operationOf (c .before .before .before .before .before .enum-told .given .1) in
-    rw (ap (λ o. eraseStep 4 (a .geometry .«page_size») (a .geometry .«first_page») x o (a .good) (erasedOf (a .left)) (wordOf (a .word))) now) (c .before .before .stray .ensures)
+    rw (ap (λ o. eraseStep (a .width) (a .geometry .«page_size») (a .geometry .«first_page») x o (a .good) (erasedOf (a .left)) (wordOf (a .word))) now) (c .before .before .stray .ensures)
 
 same-length-3 : tie.Need-same-length-3
 same-length-3 c = search needs
@@ -60,7 +60,7 @@ returns-2 c =
     let a = c .before .before .before .before .before .before .before .before .before .before .before .args in
     let x = worldOf (a .world) (a .page .now) (a .hold .now) (a .volume .now) in
     let now = ap operationOf (c .before .before .before .before .before .before .operation .given .1) in
-    rw (ap (λ o. eraseStep 4 (a .geometry .«page_size») (a .geometry .«first_page») x o (a .good) (erasedOf (a .left)) (wordOf (a .word))) now) (c .before .before .stray2 .ensures)
+    rw (ap (λ o. eraseStep (a .width) (a .geometry .«page_size») (a .geometry .«first_page») x o (a .good) (erasedOf (a .left)) (wordOf (a .word))) now) (c .before .before .stray2 .ensures)
 
 same-length-5 : tie.Need-same-length-5
 same-length-5 c = search needs
@@ -76,7 +76,7 @@ returns-3 c =
     let leaves = c .before .before .before .before .before .before .before .before .before .before .erase-leaves in
     let after = c .before .before .before .before .before .before .before .before .end-erase in
     let rest = c .before .before .before .before .before .at-rest in
-    rw (erase-ends (a .geometry .«page_size») (a .geometry .«first_page») _ x (worldOf (rest .result) (a .page .now) (a .hold .now) (after .last .0)) (a .good) (erasedOf (a .left)) (erasedOf (leaves .result)) (wordOf (a .word)) now (leaves .ensures) (after .ensures) (rest .ensures _ _ _)) (c .before .before .erased .ensures)
+    rw (erase-ends _ (a .geometry .«page_size») (a .geometry .«first_page») _ x (worldOf (rest .result) (a .page .now) (a .hold .now) (after .last .0)) (a .good) (erasedOf (a .left)) (erasedOf (leaves .result)) (wordOf (a .word)) now (leaves .ensures) (after .ensures) (rest .ensures _ _ _)) (c .before .before .erased .ensures)
 
 pub complete-spec : {M : Type 1} → statement M
 complete-spec =

@@ -19,7 +19,7 @@ returns c =
     let a = c .before .before .before .before .before .before .args in
     let e = c .before .erase .ensures in
     let x = worldOf (a .world) (a .page .now) (a .hold .now) (a .volume .now) in
-    delivers (a .first-page) x unended (erases 4 x (wordOf (a .word))) (wordOf (a .word)) (c .delivered .ensures _ _ (a .volume .now)) e refl refl
+    delivers (a .first-page) x unended (erases (a .width) x (wordOf (a .word))) (wordOf (a .word)) (c .delivered .ensures _ _ (a .volume .now)) e refl refl
 
 pub erase-spec : {M : Type 1} → statement M
 erase-spec = tie.close (tie.spec erase-requires delivered-requires returns)

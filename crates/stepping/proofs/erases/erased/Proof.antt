@@ -22,7 +22,7 @@ returns c =
     let a = c .before .before .before .before .before .before .before .before .before .args in
     let e = c .before .before .before .erase-complete .ensures in
     let x = worldOf (a .world) (a .page .now) (a .hold .now) (a .volume .now) in
-    delivers (a .first-page) x (endedOf (a .left)) (eraseCompletes 4 x (a .good) (wordOf (a .word))) (wordOf (a .word)) (c .delivered .ensures _ _ (a .volume .now)) (e .answers) (e .pages) refl
+    delivers (a .first-page) x (endedOf (a .left)) (eraseCompletes (a .width) x (a .good) (wordOf (a .word))) (wordOf (a .word)) (c .delivered .ensures _ _ (a .volume .now)) (e .answers) (e .pages) refl
 
 pub erased-spec : {M : Type 1} → statement M
 erased-spec = tie.close (tie.spec erase-complete-requires delivered-requires same-length returns)

@@ -31,7 +31,7 @@ returns c =
     let a = c .before .before .before .before .before .before .before .before .before .before .before .before .args in
     let due = sym (c .before .before .before .before .before .before .before .unless-erasing .ensures) ∙ ap checkOf (c .before .before .before .before .before .answer .given .1) in
     let x = worldOf (a .world) (a .page .now) (a .hold .now) (a .volume .now) in
-    rw (stray-comes x (delivered (a .first-page) x unended (eraseCompletes 4 x (a .good) (wordOf (a .word))) (wordOf (a .word))) due) (c .before .before .erased .ensures)
+    rw (stray-comes x (delivered (a .first-page) x unended (eraseCompletes (a .width) x (a .good) (wordOf (a .word))) (wordOf (a .word))) due) (c .before .before .erased .ensures)
 
 returns-2 : tie.Need-returns-2
 returns-2 c =

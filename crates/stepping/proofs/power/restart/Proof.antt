@@ -20,7 +20,7 @@ returns : tie.Need-returns
 returns c =
     let a = c .before .before .before .before .before .before .before .before .args in
     let x = worldOf (a .world) (a .page .now) (a .hold .now) (a .volume .now) in
-    c .answered .ensures _ _ _ _ ∙ restarts (geometryOf (a .geometry)) (a .circular) x (endedOf (a .left)) (a .read-client) (a .append-client) (a .volume .now) (a .hold .now) (c .before .before .before .restart .ensures)
+    c .answered .ensures _ _ _ _ ∙ restarts _ (geometryOf (a .geometry)) (a .circular) x (endedOf (a .left)) (a .read-client) (a .append-client) (a .volume .now) (a .hold .now) (c .before .before .before .restart .ensures)
 
 pub restart-spec : {M : Type 1} → statement M
 restart-spec = tie.close (tie.spec restart-requires answered-requires same-length returns)

@@ -30,7 +30,7 @@ returns c =
     let wipe = erasedOf (a .wipe) in
     let under = operationOf (a .world .operation) in
     let power = c .before .before .before .before .before .before .before .before .before .before .if1 .taken in
-    rw (steps-on (geometryOf (a .geometry)) (a .circular) x (event.restart left wipe (a .read-client) (a .append-client) (a .page .now) (a .hold .now)) power, restarts-over (geometryOf (a .geometry)) (a .circular) x (endedBy under left wipe) (endedOf (e .result)) (a .read-client) (a .append-client) (afterEnd (a .geometry .«page_size») x under left wipe .volume) (e .last .1 .1 .1 .1 .0) (a .page .now) (a .hold .now) (e .ensures .1 (a .hold .now)) (e .ensures .0)) (c .before .before .restart .ensures)
+    rw (steps-on _ (geometryOf (a .geometry)) (a .circular) x (event.restart left wipe (a .read-client) (a .append-client) (a .page .now) (a .hold .now)) power, restarts-over _ (geometryOf (a .geometry)) (a .circular) x (endedBy under left wipe) (endedOf (e .result)) (a .read-client) (a .append-client) (afterEnd (a .geometry .«page_size») x under left wipe .volume) (e .last .1 .1 .1 .1 .0) (a .page .now) (a .hold .now) (e .ensures .1 (a .hold .now)) (e .ensures .0)) (c .before .before .restart .ensures)
 
 restart-requires-2 : tie.Need-restart-requires-2
 restart-requires-2 c κs = search needs
@@ -46,7 +46,7 @@ returns-2 c =
     let a = c .before .before .before .before .before .before .before .before .before .args in
     let x = worldOf (a .world) (a .page .now) (a .hold .now) (a .volume .now) in
     let power = c .before .before .before .before .before .if1 .left in
-    rw (steps-off (geometryOf (a .geometry)) (a .circular) x (event.restart (leftOf (a .left)) (erasedOf (a .wipe)) (a .read-client) (a .append-client) (a .page .now) (a .hold .now)) power) (c .before .before .restart2 .ensures)
+    rw (steps-off _ (geometryOf (a .geometry)) (a .circular) x (event.restart (leftOf (a .left)) (erasedOf (a .wipe)) (a .read-client) (a .append-client) (a .page .now) (a .hold .now)) power) (c .before .before .restart2 .ensures)
 
 pub restart-again-spec : {M : Type 1} → statement M
 restart-again-spec =

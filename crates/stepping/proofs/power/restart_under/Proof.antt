@@ -17,7 +17,7 @@ end-requires c κs = search needs
 restart-with-requires : tie.Need-restart-with-requires
 restart-with-requires c κs =
     let a = c .before .before .before .before .before .before .before .before .before .before .before .before .args in
-    ap (λ n. shapeFits 4 (geometryOf (a .geometry)) n (length (a .page .now)) (length (a .hold .now))) (c .before .before .before .before .before .end .kept .1 .1 .1 .1 .0) ∙ c .before .before .before .before .before .before .before .before .before .before .before .before .pre
+    ap (λ n. shapeFits (a .width) (geometryOf (a .geometry)) n (length (a .page .now)) (length (a .hold .now))) (c .before .before .before .before .before .end .kept .1 .1 .1 .1 .0) ∙ c .before .before .before .before .before .before .before .before .before .before .before .before .pre
 
 same-length : tie.Need-same-length
 same-length c = search needs
@@ -36,7 +36,7 @@ returns c =
     let left = leftOf (a .left) in
     let wipe = erasedOf (a .wipe) in
     let under = operationOf (a .world .operation) in
-    rw (restarts-over (geometryOf (a .geometry)) (a .circular) x (endedBy under left wipe) (endedOf (e .result)) (a .read-client) (a .append-client) (afterEnd (a .geometry .«page_size») x under left wipe .volume) (e .last .1 .1 .1 .1 .0) (take (a .size) (a .bytes .now)) (drop (a .size) (a .bytes .now)) (e .ensures .1 (a .hold .now)) (e .ensures .0)) (c .before .before .before .before .restart-with .ensures)
+    rw (restarts-over _ (geometryOf (a .geometry)) (a .circular) x (endedBy under left wipe) (endedOf (e .result)) (a .read-client) (a .append-client) (afterEnd (a .geometry .«page_size») x under left wipe .volume) (e .last .1 .1 .1 .1 .0) (take (a .size) (a .bytes .now)) (drop (a .size) (a .bytes .now)) (e .ensures .1 (a .hold .now)) (e .ensures .0)) (c .before .before .before .before .restart-with .ensures)
 
 pub restart-under-spec : {M : Type 1} → statement M
 restart-under-spec =

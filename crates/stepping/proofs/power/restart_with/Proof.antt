@@ -17,7 +17,7 @@ returns : tie.Need-returns
 returns c =
     let a = c .before .before .before .before .before .before .args in
     let x = worldOf (a .world) (a .page .now) (a .hold .now) (a .volume .now) in
-    c .answered .ensures _ _ _ _ ∙ refuses (geometryOf (a .geometry)) (a .circular) x (endedOf (a .left)) (a .read-client) (a .append-client) (a .volume .now) (take (a .size) (a .bytes .now)) (drop (a .size) (a .bytes .now)) (odd-size _ _ _ _ _ _ (c .before .before .before .before .before .before .pre) (c .before .if1 .taken))
+    c .answered .ensures _ _ _ _ ∙ refuses _ (geometryOf (a .geometry)) (a .circular) x (endedOf (a .left)) (a .read-client) (a .append-client) (a .volume .now) (take (a .size) (a .bytes .now)) (drop (a .size) (a .bytes .now)) (odd-size _ _ _ _ _ _ _ (c .before .before .before .before .before .before .pre) (c .before .if1 .taken))
 
 add-if2 : tie.Need-add-if2
 add-if2 c = search needs
@@ -29,7 +29,7 @@ returns-2 : tie.Need-returns-2
 returns-2 c =
     let a = c .before .before .before .before .before .before .before .args in
     let x = worldOf (a .world) (a .page .now) (a .hold .now) (a .volume .now) in
-    c .answered2 .ensures _ _ _ _ ∙ refuses (geometryOf (a .geometry)) (a .circular) x (endedOf (a .left)) (a .read-client) (a .append-client) (a .volume .now) (take (a .size) (a .bytes .now)) (drop (a .size) (a .bytes .now)) (odd-length _ _ _ _ _ _ (c .before .before .before .before .before .before .before .pre) (c .before .before .if1 .left) (c .before .if2 .taken))
+    c .answered2 .ensures _ _ _ _ ∙ refuses _ (geometryOf (a .geometry)) (a .circular) x (endedOf (a .left)) (a .read-client) (a .append-client) (a .volume .now) (take (a .size) (a .bytes .now)) (drop (a .size) (a .bytes .now)) (odd-length _ _ _ _ _ _ _ (c .before .before .before .before .before .before .before .pre) (c .before .before .if1 .left) (c .before .if2 .taken))
 
 slice-aggregate-copy-page : tie.Need-slice-aggregate-copy-page
 slice-aggregate-copy-page c = simp length-take (omega arith)
@@ -62,10 +62,10 @@ returns-3 : tie.Need-returns-3
 returns-3 c =
     let a = c .before .before .before .before .before .before .before .before .before .before .before .before .before .before .before .before .before .before .before .before .before .args in
     let x = worldOf (a .world) (a .page .now) (a .hold .now) (a .volume .now) in
-    let fit = even _ _ _ _ (a .size) (a .bytes .now) (c .before .before .before .before .before .before .before .before .before .before .before .before .before .before .before .before .before .before .before .before .before .pre) (c .before .before .before .before .before .before .before .before .before .before .before .before .before .before .before .before .if1 .left) (c .before .before .before .before .before .before .before .before .before .before .before .before .before .before .before .if2 .left) in
+    let fit = even _ _ _ _ _ (a .size) (a .bytes .now) (c .before .before .before .before .before .before .before .before .before .before .before .before .before .before .before .before .before .before .before .before .before .pre) (c .before .before .before .before .before .before .before .before .before .before .before .before .before .before .before .before .if1 .left) (c .before .before .before .before .before .before .before .before .before .before .before .before .before .before .before .if2 .left) in
     let page = c .before .before .before .before .before .before .before .before .before .before .before .before .copy-page in
     let hold = c .before .before .before .before .before .before .before .copy-page2 in
-    rw (replaces (geometryOf (a .geometry)) (a .circular) x (worldOf (a .world) (page .last .0) (hold .last .0) (a .volume .now)) (endedOf (a .left)) (a .read-client) (a .append-client) (a .volume .now) (take (a .size) (a .bytes .now)) (drop (a .size) (a .bytes .now)) (page .last .0) (hold .last .0) fit (page .ensures) (hold .ensures ∙ part-to-end (a .bytes .now) (a .size))) (c .before .before .restart .ensures)
+    rw (replaces _ (geometryOf (a .geometry)) (a .circular) x (worldOf (a .world) (page .last .0) (hold .last .0) (a .volume .now)) (endedOf (a .left)) (a .read-client) (a .append-client) (a .volume .now) (take (a .size) (a .bytes .now)) (drop (a .size) (a .bytes .now)) (page .last .0) (hold .last .0) fit (page .ensures) (hold .ensures ∙ part-to-end (a .bytes .now) (a .size))) (c .before .before .restart .ensures)
 
 pub restart-with-spec : {M : Type 1} → statement M
 restart-with-spec =

@@ -19,7 +19,7 @@ returns c =
     let a = c .before .before .before .before .before .before .args in
     let e = c .before .handle-deferred-call .ensures in
     let x = worldOf (a .world) (a .page .now) (a .hold .now) (a .volume .now) in
-    delivers (a .first-page) x unended (defers 4 x) ok (c .delivered .ensures _ _ (a .volume .now)) e refl refl
+    delivers (a .first-page) x unended (defers (a .width) x) ok (c .delivered .ensures _ _ (a .volume .now)) e refl refl
 
 pub deferred-spec : {M : Type 1} → statement M
 deferred-spec = tie.close (tie.spec handle-deferred-call-requires delivered-requires returns)

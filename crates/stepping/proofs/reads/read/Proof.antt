@@ -23,7 +23,7 @@ returns c =
     let a = c .before .before .before .before .before .before .before .before .before .before .args in
     let e = c .before .before .before .read .ensures in
     let x = worldOf (a .world) (a .page .now) (a .hold .now) (a .volume .now) in
-    (delivers (a .first-page) x unended (reads 4 x (length (a .buffer .now)) (a .length)) ok (c .delivered .ensures _ _ (a .volume .now)) (e .answers) refl refl, e .filled)
+    (delivers (a .first-page) x unended (reads (a .width) x (length (a .buffer .now)) (a .length)) ok (c .delivered .ensures _ _ (a .volume .now)) (e .answers) refl refl, e .filled)
 
 pub read-spec : {M : Type 1} → statement M
 read-spec = tie.close (tie.spec read-requires delivered-requires same-length returns)

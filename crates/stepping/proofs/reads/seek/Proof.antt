@@ -19,7 +19,7 @@ returns c =
     let a = c .before .before .before .before .before .before .args in
     let e = c .before .seek .ensures in
     let x = worldOf (a .world) (a .page .now) (a .hold .now) (a .volume .now) in
-    delivers (a .first-page) x unended (seeks 4 x (a .entry-id .0)) ok (c .delivered .ensures _ _ (a .volume .now)) e refl refl
+    delivers (a .first-page) x unended (seeks (a .width) x (a .entry-id .0)) ok (c .delivered .ensures _ _ (a .volume .now)) e refl refl
 
 pub seek-spec : {M : Type 1} → statement M
 seek-spec = tie.close (tie.spec seek-requires delivered-requires returns)

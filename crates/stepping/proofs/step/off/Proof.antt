@@ -49,19 +49,19 @@ returns-2 : tie.Need-returns-2
 returns-2 c room =
     let a = c .before .before .before .before .before .before .before .before .args in
     let x = worldOf (a .world) (a .page .now) (a .hold .now) (a .volume .now) in
-    rw (c .before .before .event2 .given .1, writes-off (geometryOf (a .geometry)) (a .circular) x (c .before .before .event2 .given .0 .0) (a .bytes .now)) (c .undelivered .ensures _ _ _ _)
+    rw (c .before .before .event2 .given .1, writes-off _ (geometryOf (a .geometry)) (a .circular) x (c .before .before .event2 .given .0 .0) (a .bytes .now)) (c .undelivered .ensures _ _ _ _)
 
 returns-3 : tie.Need-returns-3
 returns-3 c room =
     let a = c .before .before .before .before .before .before .before .before .args in
     let x = worldOf (a .world) (a .page .now) (a .hold .now) (a .volume .now) in
-    rw (c .before .before .event3 .given .1, reads-off (geometryOf (a .geometry)) (a .circular) x (c .before .before .event3 .given .0 .0) room) (c .undelivered2 .ensures _ _ _ _)
+    rw (c .before .before .event3 .given .1, reads-off _ (geometryOf (a .geometry)) (a .circular) x (c .before .before .event3 .given .0 .0) room) (c .undelivered2 .ensures _ _ _ _)
 
 returns-4 : tie.Need-returns-4
 returns-4 c room =
     let a = c .before .before .before .before .before .before .before .before .args in
     let x = worldOf (a .world) (a .page .now) (a .hold .now) (a .volume .now) in
-    rw (c .before .before .event4 .given .1, erases-off (geometryOf (a .geometry)) (a .circular) x (c .before .before .event4 .given .0 .0)) (c .undelivered3 .ensures _ _ _ _)
+    rw (c .before .before .event4 .given .1, erases-off _ (geometryOf (a .geometry)) (a .circular) x (c .before .before .event4 .given .0 .0)) (c .undelivered3 .ensures _ _ _ _)
 
 returns-5 : tie.Need-returns-5
 returns-5 c room = rw (c .before .before .event5 .given .1) (c .undelivered4 .ensures _ _ _ _)

@@ -29,7 +29,7 @@ returns c =
     let x = worldOf (a .world) (a .page .now) (a .hold .now) (a .volume .now) in
     let power = c .before .before .before .before .before .before .before .before .before .before .before .before .before .if1 .taken in
     let e = c .before .before .before .before .before .before .before .before .on .ensures in
-    (rw (steps-on (geometryOf (a .geometry)) (a .circular) x (eventOf (a .event) (a .bytes .now) (length (a .buffer .now))) power) (e .0), rw (into-on x (a .event) (a .buffer .now) power) (e .1))
+    (rw (steps-on _ (geometryOf (a .geometry)) (a .circular) x (eventOf (a .event) (a .bytes .now) (length (a .buffer .now))) power) (e .0), rw (into-on _ x (a .event) (a .buffer .now) power) (e .1))
 
 off-requires : tie.Need-off-requires
 off-requires c κs = search needs
@@ -48,7 +48,7 @@ returns-2 c =
     let a = c .before .before .before .before .before .before .before .before .before .before .before .before .before .before .args in
     let x = worldOf (a .world) (a .page .now) (a .hold .now) (a .volume .now) in
     let power = c .before .before .before .before .before .before .before .before .if1 .left in
-    (rw (steps-off (geometryOf (a .geometry)) (a .circular) x (eventOf (a .event) (a .bytes .now) (length (a .buffer .now))) power) (c .before .before .before .before .off .ensures _), rw (into-off x (a .event) (a .buffer .now) power))
+    (rw (steps-off _ (geometryOf (a .geometry)) (a .circular) x (eventOf (a .event) (a .bytes .now) (length (a .buffer .now))) power) (c .before .before .before .before .off .ensures _), rw (into-off _ x (a .event) (a .buffer .now) power))
 
 pub step-spec : {M : Type 1} → statement M
 step-spec =

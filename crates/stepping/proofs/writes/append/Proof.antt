@@ -24,7 +24,7 @@ returns c =
     let a = c .before .before .before .before .before .before .before .before .before .before .before .before .before .args in
     let e = c .before .before .before .before .before .append .ensures in
     let x = worldOf (a .world) (a .page .now) (a .hold .now) (a .volume .now) in
-    delivers (a .first-page) x unended (appends 4 x (a .data .now) (a .length) (wordOf (a .word))) (wordOf (a .word)) (c .delivered .ensures _ _ (a .volume .now)) (e .answers) (e .pages) (e .holds)
+    delivers (a .first-page) x unended (appends (a .width) x (a .data .now) (a .length) (wordOf (a .word))) (wordOf (a .word)) (c .delivered .ensures _ _ (a .volume .now)) (e .answers) (e .pages) (e .holds)
 
 pub append-spec : {M : Type 1} → statement M
 append-spec =

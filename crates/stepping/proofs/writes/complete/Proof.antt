@@ -46,7 +46,7 @@ returns c =
     let a = c .before .before .before .before .before .before .before .before .before .before .args in
     let x = worldOf (a .world) (a .page .now) (a .hold .now) (a .volume .now) in
     let now = ap operationOf (c .before .before .before .before .before .enum-told .given .1) in
-    rw (ap (λ o. writeStep 4 (a .geometry .«page_size») (a .geometry .«first_page») x o (a .good) (leftOf (a .left))) now) (c .before .before .stray .ensures)
+    rw (ap (λ o. writeStep (a .width) (a .geometry .«page_size») (a .geometry .«first_page») x o (a .good) (leftOf (a .left))) now) (c .before .before .stray .ensures)
 
 same-length-3 : tie.Need-same-length-3
 same-length-3 c = search needs
@@ -59,7 +59,7 @@ returns-2 c =
     let a = c .before .before .before .before .before .before .before .before .before .before .before .args in
     let x = worldOf (a .world) (a .page .now) (a .hold .now) (a .volume .now) in
     let now = ap operationOf (c .before .before .before .before .before .before .operation .given .1) in
-    rw (ap (λ o. writeStep 4 (a .geometry .«page_size») (a .geometry .«first_page») x o (a .good) (leftOf (a .left))) now) (c .before .before .stray2 .ensures)
+    rw (ap (λ o. writeStep (a .width) (a .geometry .«page_size») (a .geometry .«first_page») x o (a .good) (leftOf (a .left))) now) (c .before .before .stray2 .ensures)
 
 same-length-5 : tie.Need-same-length-5
 same-length-5 c = search needs
@@ -75,7 +75,7 @@ returns-3 c =
     let leaves = c .before .before .before .before .before .before .before .before .before .before .before .write-leaves in
     let after = c .before .before .before .before .before .before .before .before .end-write in
     let rest = c .before .before .before .before .before .at-rest in
-    rw (write-ends (a .geometry .«page_size») (a .geometry .«first_page») _ x (worldOf (rest .result) (a .page .now) (a .hold .now) (after .last .0)) (a .good) (leftOf (a .left)) (leftOf (leaves .result)) now (leaves .ensures) (after .ensures) (rest .ensures _ _ _)) (c .before .before .written .ensures)
+    rw (write-ends _ (a .geometry .«page_size») (a .geometry .«first_page») _ x (worldOf (rest .result) (a .page .now) (a .hold .now) (after .last .0)) (a .good) (leftOf (a .left)) (leftOf (leaves .result)) now (leaves .ensures) (after .ensures) (rest .ensures _ _ _)) (c .before .before .written .ensures)
 
 pub complete-spec : {M : Type 1} → statement M
 complete-spec =

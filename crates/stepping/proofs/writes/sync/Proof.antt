@@ -22,7 +22,7 @@ returns c =
     let a = c .before .before .before .before .before .before .before .before .before .args in
     let e = c .before .before .before .sync .ensures in
     let x = worldOf (a .world) (a .page .now) (a .hold .now) (a .volume .now) in
-    delivers (a .first-page) x unended (syncs 4 x (wordOf (a .word))) (wordOf (a .word)) (c .delivered .ensures _ _ (a .volume .now)) (e .answers) (e .pages) refl
+    delivers (a .first-page) x unended (syncs (a .width) x (wordOf (a .word))) (wordOf (a .word)) (c .delivered .ensures _ _ (a .volume .now)) (e .answers) (e .pages) refl
 
 pub sync-spec : {M : Type 1} → statement M
 sync-spec = tie.close (tie.spec sync-requires delivered-requires same-length returns)

@@ -22,7 +22,7 @@ returns c =
     let a = c .before .before .before .before .before .before .before .before .before .args in
     let e = c .before .before .before .write-complete .ensures in
     let x = worldOf (a .world) (a .page .now) (a .hold .now) (a .volume .now) in
-    delivers (a .first-page) x (endedOf (a .left)) (writeCompletes 4 x (a .good)) ok (c .delivered .ensures _ _ (a .volume .now)) (e .answers) (e .pages) refl
+    delivers (a .first-page) x (endedOf (a .left)) (writeCompletes (a .width) x (a .good)) ok (c .delivered .ensures _ _ (a .volume .now)) (e .answers) (e .pages) refl
 
 pub written-spec : {M : Type 1} → statement M
 written-spec = tie.close (tie.spec write-complete-requires delivered-requires same-length returns)

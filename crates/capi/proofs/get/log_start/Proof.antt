@@ -1,0 +1,32 @@
+-- `capi::get::log_start` meets its contract.
+use Rattle.capi.proofs.Blocks.{holds-none, holds}
+use borrow.Author.Needs.{needs}
+use Rattle.capi.proofs.get.log_start.Statement.{statement}
+use Rattle.capi.proofs.get.log_start.Tie as tie
+
+load-requires : tie.Need-load-requires
+load-requires c κs = search needs
+
+enum-told : tie.Need-enum-told
+enum-told c = search needs
+
+enum-known-log : tie.Need-enum-known-log
+enum-known-log c = search needs
+
+log-start-requires : tie.Need-log-start-requires
+log-start-requires c κs = search needs
+
+returns : tie.Need-returns
+returns c =
+    let a = c .before .before .before .before .args in
+    rw (holds-none (a .width) (a .block .now) (c .before .before .load .ensures) (c .enum-told .given .1))
+
+returns-2 : tie.Need-returns-2
+returns-2 c =
+    let a = c .before .before .before .before .before .before .args in
+    rw (holds (a .width) (a .block .now) (c .before .before .before .before .load .ensures) (c .before .before .log .given .1)) (c .log-start .ensures)
+
+pub log-start-spec : {M : Type 1} → statement M
+log-start-spec =
+    tie.close
+    (tie.spec load-requires enum-told enum-known-log log-start-requires returns returns-2)

@@ -1,0 +1,5 @@
+// The board with 4-byte words, for C and Rust: the functions of `capi` at that width, exported by name.
+pub mod calls;
+pub mod get;
+pub mod restart;
+pub mod survey;

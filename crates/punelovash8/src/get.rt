@@ -1,0 +1,36 @@
+// The getters, on a block of the board with 8-byte words. A block that holds no log has 0 for each.
+ghost use mathlib.Core.Path.{_≡_};
+ghost use Rattle.capi.specs.Get.{oldestOf, appendOf, readOf, sizeOf};
+use capi::get;
+
+// The ID of the oldest entry.
+#[no_mangle]
+pub extern "C" fn punelovash8_log_start(block: &[u8]) -> usize
+    ensures { λ r. ⌜ r ≡ oldestOf 8 (now (block .entry)) ⌝ }
+{
+    get::log_start(8, block)
+}
+
+// The append ID: that of the next entry, where it fits in the page.
+#[no_mangle]
+pub extern "C" fn punelovash8_log_end(block: &[u8]) -> usize
+    ensures { λ r. ⌜ r ≡ appendOf 8 (now (block .entry)) ⌝ }
+{
+    get::log_end(8, block)
+}
+
+// The ID of the next entry to read.
+#[no_mangle]
+pub extern "C" fn punelovash8_next_read_entry_id(block: &[u8]) -> usize
+    ensures { λ r. ⌜ r ≡ readOf 8 (now (block .entry)) ⌝ }
+{
+    get::next_read_entry_id(8, block)
+}
+
+// The bytes of the volume without its page headers; 0 for sizes that SHAPE refuses.
+#[no_mangle]
+pub extern "C" fn punelovash8_get_size(block: &[u8]) -> usize
+    ensures { λ r. ⌜ r ≡ sizeOf 8 (now (block .entry)) ⌝ }
+{
+    get::get_size(8, block)
+}
