@@ -1,4 +1,5 @@
--- What a function on a block does, on the board with words of w bytes: a block that holds no log is refused by STATE, and nothing changes; else the call runs on the log, and the block takes what it gave.
+-- What a function on a block does, on the board with words of w bytes: a block that holds no log is refused by STATE, and nothing changes;
+-- else the call runs on the log, and the block takes what it gave.
 use Prim.Native.Nat.{ℕ, _*_}
 use mathlib.Core.Path.{_≡_}
 use mathlib.Core.Bool.{Bool}

@@ -46,7 +46,8 @@ pub fn append(
     }
 }
 
-// Reads the next entry, of at most `length` bytes, into `buffer`. Of the hold buffer a read looks at the length alone, which has to be the page buffer's: the page buffer stands in for it.
+// Reads the next entry, of at most `length` bytes, into `buffer`. Of the hold buffer a read looks at the length alone, which has to be the page buffer's:
+// the page buffer stands in for it.
 pub fn read<'a>(
     width: usize,
     block: &mut [u8],

@@ -31,7 +31,8 @@ pub extern "C" fn punelovash8_append(
     calls::append(8, block, volume, page, hold, data, length, word)
 }
 
-// Reads the next entry, of at most `length` bytes, into `buffer`. Of the hold buffer a read looks at the length alone, which has to be the page buffer's: the page buffer stands in for it.
+// Reads the next entry, of at most `length` bytes, into `buffer`. Of the hold buffer a read looks at the length alone, which has to be the page buffer's:
+// the page buffer stands in for it.
 #[no_mangle]
 pub extern "C" fn punelovash8_read<'a>(
     block: &mut [u8],

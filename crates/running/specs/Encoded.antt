@@ -1,5 +1,6 @@
 -- A list of events as bytes. An event is fourteen bytes, its head, and then its own bytes: an append's client buffer, or a restart's page and hold buffers.
--- The head has the event's kind, its options, a number (8 bytes, the lowest first) and how many bytes of its own follow (4 bytes). It is the same for both widths of a word. Any bytes are a list; an incomplete last event is none.
+-- The head has the event's kind, its options, a number (8 bytes, the lowest first) and how many bytes of its own follow (4 bytes).
+-- It is the same for both widths of a word. Any bytes are a list; an incomplete last event is none.
 use Prim.Native.Nat.{ℕ, zero, suc, _+_, _/_, _%_}
 use mathlib.Core.Bool.{Bool}
 use mathlib.Core.List.{List, [], _∷_}

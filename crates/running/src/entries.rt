@@ -20,8 +20,8 @@ pub struct Entries {
     pub used: usize,
 }
 
-// Reads the next entry to the buffer's front, its length before it, and makes the deferred call. The buffer holds zeros; it has room for a length and a page, or
-// nothing is read.
+// Reads the next entry to the buffer's front, its length before it, and makes the deferred call.
+// The buffer holds zeros; it has room for a length and a page, or nothing is read.
 fn read_next<'a>(
     width: usize,
     log: Log,

@@ -52,11 +52,7 @@ pub fn volume_size(width: usize) -> usize {
 pub fn ceiling(width: usize) -> usize
     ensures { λ r. ⌜ r ≤ 8070450532247928832 ⌝ }
 {
-    if width == 8 {
-        0x7000_0000_0000_0000
-    } else {
-        0x7000_0000
-    }
+    page::header::ceiling(board(width))
 }
 
 pub fn largest_word(width: usize) -> usize {
