@@ -1,124 +1,140 @@
--- One read of a log that is at rest: an entry, or the end. w is the width of a word, g the sizes; the page buffer is `page`.
-use Prim.Native.Nat.{ℕ, _+_, _*_, _-_, _%_, _≤_}
-use mathlib.Core.Path.{_≡_, refl, sym, subst}
-use mathlib.Core.Bool.{Bool, true}
+-- One read in a run of reads: an entry, or the end. l is the log that the run began with, x what every call is lent.
+use Prim.Native.Nat.{ℕ, _+_, _*_, _-_, _/_, _%_, _≤_, _<_}
+use mathlib.Core.Path.{_≡_, refl, sym, ap, _∙_, subst}
+use mathlib.Core.Bool.{Bool, true, false}
 use mathlib.Core.List.{List, [], _∷_}
-use mathlib.Core.Logic.{_⊎_}
 use mathlib.Core.Option.{none}
 use native.Mathlib.Omega.{arith}
 use lib.ListN.{length}
-use borrow.Author.Tests.{le-ltb}
-use Rattle.page.specs.Sizes.{ceiling}
-use Rattle.page.specs.Answered.{gives, refuses}
-use Rattle.lookup.specs.Held.{bytesAt, nextEntry, entryLength}
+use lib.Dec.{eqb}
+use borrow.Author.Tests.{le-ltb, lt-leb, le-leb}
+use Rattle.page.specs.Pick.{pick}
+use Rattle.page.specs.Bytes.{padByte}
+use Rattle.page.specs.Answered.{Answered, gives, refuses, FAIL}
+use Rattle.page_lookup.specs.Held.{bytesAt, byteAt, place, nextEntry, entryLength}
+use Rattle.page.proofs.Kit.{parts}
 use Rattle.page.proofs.Overwrites.{overwrite-same}
-use Rattle.log.specs.Answer.{FAIL}
-use Rattle.log.specs.Log.{Geometry, State, Idle, Read, Log}
-use Rattle.log.specs.Check.{shapeFits, keptFits}
-use Rattle.log.proofs.Checks.{StateFits, fits-state}
-use Rattle.call.specs.Outcome.{Outcome}
-use Rattle.call.specs.Gate.{gate}
-use Rattle.reading.specs.Read.{readRefusal, readRuns, readBuffer, readChecks, Reads}
-use Rattle.reading.specs.Deferred.{deferred}
-use Rattle.bench.specs.Promise.{ReadEntry, ReadsOn, ends, goes}
-use Rattle.bench.proofs.Gates.{passes}
+use Rattle.engine_state.specs.Log.{State, Idle, Read, Log}
+use Rattle.engine_state.specs.Check.{keptFits}
+use Rattle.engine_state.proofs.Checks.{ShapeFits, StateFits, fits-state}
+use Rattle.engine_call.specs.Outcome.{Lent, Done, firstOf, moved}
+use Rattle.engine_call.specs.Gate.{gate}
+use Rattle.engine_read.specs.Read.{Found, entry, no-entry, foundLength, found, readDone, readRuns, read, readBuffer}
+use Rattle.engine_read.specs.Deferred.{deferredRuns, deferred}
+use Rattle.bench.specs.Promise.{ReadsOn, ends, goes}
+use Rattle.bench.proofs.Gates.{fits-shape, passes}
 
--- a log with the read client set: its state, its read ID and its kept length vary as it is read
-abbrev pub logAt : Geometry → Bool → Bool → ℕ → ℕ → State → ℕ → ℕ → Log
-logAt g circular append-client oldest append state read kept = record {
-  geometry = g;
-  circular = circular;
-  read-client = true;
-  append-client = append-client;
-  state = state;
-  oldest = oldest;
-  read = read;
-  append = append;
-  kept = kept;
-}
+-- the log in the run: its state, its read ID and its kept length vary
+abbrev pub logAt : Log → State → ℕ → ℕ → Log
+logAt l state r kept = moved l state (l .oldest) r (l .append) kept
 
--- what stays as it is read
-pub record Reader (w : ℕ) (g : Geometry) (oldest append : ℕ) (volume page hold : List ℕ) : Type 0 where
-  pub shape : shapeFits w g (length volume) (length page) (length hold) ≡ true
-  pub headed : w ≤ oldest
-  pub ordered : oldest ≤ append
-  pub limited : append ≤ ceiling w
-  pub first : oldest % g .p ≡ w
-  pub offset : (append % g .p ≡ 0) ⊎ (w ≤ append % g .p)
+-- the place of the entry at a read ID, the length of an entry, and bytes, as the log finds them
+abbrev pub placeOf : Log → Lent → ℕ → ℕ
+placeOf l x r = place (l .setup .w) (l .setup .p) (l .append) (x .volume) (x .page) r
 
-module _ {w : ℕ} {g : Geometry} (circular append-client : Bool) {o a : ℕ} {volume page hold : List ℕ} (q : Reader w g o a volume page hold) where
-  -- the gate passes it, wherever it is read
-  reader-passes : (state : State) {r kept : ℕ} → keptFits state kept ≡ true → r ≤ a → kept ≤ g .p - 2 * w
-      → gate w (logAt g circular append-client o a state r kept) (length volume) (length page) (length hold) ≡ none
-  reader-passes state {r} {kept} s h k =
-      let fits : StateFits w (logAt g circular append-client o a state r kept) =
+abbrev pub lengthAt : Log → Lent → ℕ → Answered
+lengthAt l x id = entryLength (l .setup .w) (l .setup .p) (l .append) (x .volume) (x .page) id
+
+abbrev pub heldAt : Log → Lent → ℕ → ℕ → List ℕ
+heldAt l x pos n = bytesAt (l .setup .p) (l .append) (x .volume) (x .page) pos n
+
+-- what a read finds
+abbrev pub foundFrom : Log → Lent → ℕ → ℕ → Found
+foundFrom l x r kept = found (logAt l Idle r kept) x (l .setup .p)
+
+-- reading on with a read ID and a kept length
+abbrev pub ReadsFrom : Log → Lent → ℕ → ℕ → List (List ℕ) → Type 0
+ReadsFrom l x r kept es = ReadsOn x (logAt l Idle r kept) es
+
+-- what stays in the run
+pub record Reader (l : Log) (x : Lent) : Type 0 where
+  pub shape : ShapeFits (l .setup) (length (x .volume)) (length (x .page)) (length (x .hold))
+  pub fits : StateFits l
+  pub client : l .read-client ≡ true
+
+-- a read ID and a kept length in the run
+pub record Within (l : Log) (r k : ℕ) : Type 0 where
+  pub read : r ≤ l .append
+  pub kept : k ≤ l .setup .p - 2 * l .setup .w
+
+-- reading on from a read ID, whatever the kept length
+abbrev pub ReadsPast : Log → Lent → ℕ → List (List ℕ) → Type 0
+ReadsPast l x r es = (kept : ℕ) → Within l r kept → ReadsFrom l x r kept es
+
+-- an entry is found at the place of the read ID, below A, if its length fits
+module _ (l : Log) (x : Lent) (r kept : ℕ) {id : ℕ} (e : placeOf l x r ≡ id) (h : id < l .append) where
+  found-length : foundFrom l x r kept ≡ foundLength (l .setup .p) id (lengthAt l x id)
+  unfolding found nextEntry
+  found-length = rw (e, lt-leb (l .append) id h)
+
+  pub found-entry : {n : ℕ} → lengthAt l x id ≡ gives n → n ≤ l .setup .p → foundFrom l x r kept ≡ entry id n
+  found-entry {n} long fits = found-length ∙ rw (long, le-ltb (l .setup .p) n fits)
+
+  pub found-broken : lengthAt l x id ≡ refuses FAIL → foundFrom l x r kept ≡ no-entry FAIL
+  found-broken long = found-length ∙ rw long
+
+-- and none at A or past it
+pub found-past : (l : Log) (x : Lent) (r kept : ℕ) → l .append ≤ placeOf l x r → foundFrom l x r kept ≡ no-entry FAIL
+unfolding found nextEntry
+found-past l x r kept h = rw (le-leb (l .append) (placeOf l x r) h)
+
+-- the place is at the read ID or past it
+pub place-from : (l : Log) (x : Lent) (r : ℕ) → 0 < l .setup .p → r ≤ placeOf l x r
+unfolding place
+place-from l x r h = go (eqb (r % l .setup .p) 0) (eqb (byteAt (l .setup .p) (l .append) (x .volume) (x .page) r) padByte)
+  where
+    go : (b c : Bool) → r ≤ pick b (r + l .setup .w) (pick c ((r / l .setup .p + 1) * l .setup .p + l .setup .w) r)
+    go true c = omega arith
+    go false true = omega (arith, parts r h)
+    go false false = omega arith
+
+module _ {l : Log} {x : Lent} (q : Reader l x) where
+  -- the gate passes every call of the run
+  run-passes : (state : State) {r kept : ℕ} → keptFits state kept ≡ true → Within l r kept → gate (logAt l state r kept) x ≡ none
+  run-passes state {r} {kept} s v =
+      let fits : StateFits (logAt l state r kept) =
       record {
-        headed = q .headed;
-        ordered = q .ordered;
-        limited = q .limited;
-        first = q .first;
-        read-limited = omega (arith, h, q .limited);
-        offset = q .offset;
-        kept-most = k;
+        headed = q .fits .headed;
+        ordered = q .fits .ordered;
+        limited = q .fits .limited;
+        first = q .fits .first;
+        read-limited = omega (arith, v .read, q .fits .limited);
+        offset = q .fits .offset;
+        kept-most = v .kept;
         kept-some = s;
       } in
-      passes w _ (length volume) (length page) (length hold) (q .shape) (fits-state w _ fits)
+      let h = q .shape in
+      passes _ x (fits-shape (l .setup) _ _ _ (h .sizes) (h .first) (h .whole) (h .buffer) (h .held)) (fits-state _ fits)
 
-  -- its checks pass with a buffer that is long enough
-  checks-pass : {r kept : ℕ} → r ≤ a → kept ≤ g .p - 2 * w → (room : ℕ) → g .p ≤ room
-      → readChecks w (logAt g circular append-client o a Idle r kept) (length volume) (length page) (length hold) room (g .p) ≡ none
-  unfolding readRefusal
-  checks-pass h k room m = rw (reader-passes Idle refl h k, le-ltb room (g .p) m)
+  -- the deferred call after a read
+  after-read : {r kept : ℕ} → Within l r kept → deferred (logAt l Read r kept) x ≡ deferredRuns (logAt l Read r kept) x
+  unfolding firstOf keptFits
+  after-read v = rw (run-passes Read refl v)
 
-  -- a deferred call after a read
-  read-deferred : {r kept : ℕ} → r ≤ a → kept ≤ g .p - 2 * w
-      → deferred w (logAt g circular append-client o a Read r kept) (length volume) (length page) (length hold) .log ≡ logAt g circular append-client o a Idle r kept
-  unfolding deferred
-  read-deferred h k = rw (reader-passes Read refl h k)
+  module _ {r kept : ℕ} (v : Within l r kept) where
+    -- a read with a buffer that is long enough gives what it finds
+    reads-found : (room : ℕ) → l .setup .p ≤ room
+        → read (logAt l Idle r kept) x room (l .setup .p) ≡ readDone (logAt l Idle r kept) x (foundFrom l x r kept)
+    unfolding firstOf keptFits readRuns found
+    reads-found room m = rw (run-passes Idle refl v, le-ltb room (l .setup .p) m, le-ltb (l .append) r (v .read), q .client)
 
-  -- the entry that is found is read, and reading goes on past it
-  pub reads-entry : {r kept id : ℕ} {e : List ℕ} {es : List (List ℕ)} → r ≤ a → kept ≤ g .p - 2 * w
-      → nextEntry w (g .p) a volume page r ≡ gives id → entryLength w (g .p) a volume page id ≡ gives (length e)
-      → bytesAt (g .p) a volume page (id + w) (length e) ≡ e → length e + 2 * w ≤ g .p → id + w + length e ≤ a
-      → ReadsOn w volume page hold (logAt g circular append-client o a Idle (id + w + length e) (length e)) es
-      → ReadsOn w volume page hold (logAt g circular append-client o a Idle r kept) (e ∷ es)
-  unfolding readRuns readBuffer
-  reads-entry {r} {kept} {id} {e} {es} h k found long content small below on =
-      goes {next = logAt g circular append-client o a Read (id + w + length e) (length e)} step
-      (subst (λ l. ReadsOn w volume page hold l es) (sym (read-deferred below (omega arith))) on)
-    where
-      step : (bytes bytes' : List ℕ) (u : Outcome) → g .p ≤ length bytes → Reads w (logAt g circular append-client o a Idle r kept) volume page hold bytes (g .p) u bytes'
-          → ReadEntry u bytes' (logAt g circular append-client o a Read (id + w + length e) (length e)) e
-      step bytes bytes' u m y =
-          let passed = checks-pass h k (length bytes) m in
-          let early = le-ltb a r h in
-          let fits = le-ltb (g .p) (length e) (omega arith) in
-          let out = rw (passed, early, found, long, fits) at (y .answers) in
-          let back = rw (passed, early, found, long, fits, content) at (y .filled) in
-          record { answer = rw out; log = rw out; entry = rw back (overwrite-same bytes 0 e (omega arith)) }
+    -- where no entry is found the run ends
+    pub reads-end : foundFrom l x r kept ≡ no-entry FAIL → ReadsFrom l x r kept []
+    reads-end none-there = ends {l = logAt l Idle r kept} (λ bytes m. rw (reads-found (length bytes) m, none-there))
 
-  -- where no entry is found the read fails
-  pub reads-end : {r kept : ℕ} → r ≤ a → kept ≤ g .p - 2 * w → nextEntry w (g .p) a volume page r ≡ refuses FAIL
-      → ReadsOn w volume page hold (logAt g circular append-client o a Idle r kept) []
-  unfolding readRuns
-  reads-end {r} {kept} h k found = ends step
-    where
-      step : (bytes bytes' : List ℕ) (u : Outcome) → g .p ≤ length bytes → Reads w (logAt g circular append-client o a Idle r kept) volume page hold bytes (g .p) u bytes' → u .answer ≡ FAIL
-      step bytes bytes' u m y =
-          let passed = checks-pass h k (length bytes) m in
-          let early = le-ltb a r h in
-          let out = rw (passed, early, found) at (y .answers) in
-          rw out
-
-  -- and where an entry has no length that fits
-  pub reads-broken : {r kept id : ℕ} → r ≤ a → kept ≤ g .p - 2 * w → nextEntry w (g .p) a volume page r ≡ gives id → entryLength w (g .p) a volume page id ≡ refuses FAIL
-      → ReadsOn w volume page hold (logAt g circular append-client o a Idle r kept) []
-  unfolding readRuns
-  reads-broken {r} {kept} {id} h k found long = ends step
-    where
-      step : (bytes bytes' : List ℕ) (u : Outcome) → g .p ≤ length bytes → Reads w (logAt g circular append-client o a Idle r kept) volume page hold bytes (g .p) u bytes' → u .answer ≡ FAIL
-      step bytes bytes' u m y =
-          let passed = checks-pass h k (length bytes) m in
-          let early = le-ltb a r h in
-          let out = rw (passed, early, found, long) at (y .answers) in
-          rw out
+    -- the entry that is found is read, and reading goes on past it
+    pub reads-entry : {id : ℕ} {e : List ℕ} {es : List (List ℕ)} → foundFrom l x r kept ≡ entry id (length e)
+        → heldAt l x (id + l .setup .w) (length e) ≡ e → Within l (id + l .setup .w + length e) (length e)
+        → ReadsFrom l x (id + l .setup .w + length e) (length e) es → ReadsFrom l x r kept (e ∷ es)
+    unfolding readBuffer found
+    reads-entry {id} {e} {es} there bytes-are next on =
+        goes {l = logAt l Idle r kept} {next = logAt l Read (id + l .setup .w + length e) (length e)} {e = e}
+        (λ bytes m.
+        let one = reads-found (length bytes) m in
+        record {
+          answer = rw (one, there);
+          log = rw (one, there);
+          entry = rw (one, there, bytes-are) (overwrite-same bytes 0 e (omega (arith, next .kept)));
+        })
+        (ap (λ (d : Done). d .outcome .report) (after-read next))
+        (subst (λ (d : Done). ReadsOn x (d .outcome .log) es) (sym (after-read next)) on)

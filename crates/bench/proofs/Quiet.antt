@@ -1,34 +1,37 @@
 -- Calls that leave the volume, the buffers, the operation, O and A as they are: reads, seeks, deferred calls, and every refusal.
-use Prim.Native.Nat.{ℕ}
+use Prim.Native.Nat.{ℕ, _+_}
 use mathlib.Core.Path.{_≡_, refl, sym, ap, _∙_, subst}
-use mathlib.Core.Bool.{Bool, true, false}
-use mathlib.Core.List.{List}
-use mathlib.Core.Option.{Option, none, some}
+use mathlib.Core.Bool.{Bool, true, false, not, _||_, true≢false}
+use mathlib.Core.List.{List, [], _∷_}
+use mathlib.Core.Logic.{_⊎_, inl, inr}
+use mathlib.Core.Option.{none}
 use native.Mathlib.Omega.{arith}
-use lib.ListN.{length, take}
 use lib.Dec.{ltb}
+use borrow.Author.Tests.{not-false}
 use Rattle.page.specs.Pick.{pick}
-use Rattle.page.specs.Answered.{Answered, gives, refuses}
-use Rattle.lookup.specs.Held.{entryLength}
-use Rattle.log.specs.Answer as answer
-use Rattle.log.specs.Answer.{Request, SIZE}
-use Rattle.log.specs.Log.{Geometry, State, Idle, Read, Seek, Append, Sync, Erase, Log}
-use Rattle.log.specs.Check.{stateFits}
-use Rattle.call.specs.Outcome.{Outcome, Word, ok, busy, fail, orElse, refusal, unless, keep}
-use Rattle.call.specs.Gate.{gate, unlessIdle, unlessDeferred, unlessSet}
-use Rattle.call.proofs.Checks.{or-none, is-idle}
-use Rattle.reading.specs.Read.{canceled, readEntry, readLength, readPlace, found, readRefusal, readRuns, readChecks}
-use Rattle.reading.specs.Seek.{sought, seekRefusal}
-use Rattle.reading.specs.Seek as seeking
-use Rattle.reading.specs.Deferred.{deferred}
-use Rattle.flash.specs.Flash.{Operation, nothing, started}
-use Rattle.bench.specs.World.{World, unended, Heard, heard, delivered, strayStep}
-use Rattle.bench.specs.Book.{Book}
-use Rattle.bench.proofs.Invariant.{Books, Under, idle, read, seek, stuck, erase, sync, append, Running, Inv}
-
--- the world with another log
-abbrev pub withLog : World → Log → World
-withLog x l = record { power = true; log = l; page = x .page; hold = x .hold; volume = x .volume; operation = x .operation }
+use Rattle.engine_state.specs.Answer.{OK, CANCEL, Report, no-report, Request, no-request}
+use Rattle.engine_state.specs.Log.{Setup, State, Idle, Read, Seek, Append, Sync, Erase, Log, is}
+use Rattle.engine_state.specs.Check.{stateFits}
+use Rattle.engine_call.specs.Outcome.{Lent, Done, Word, ok, busy, fail, stopIf, firstOf, still, moved}
+use Rattle.engine_call.specs.Call.{Call, appendData, callWord, append, sync, read, seek, deferred, erase, Completion, completionWord}
+use Rattle.engine_call.specs.Gate.{unlessIdle, unlessSet, unlessDeferred, unlessFree}
+use Rattle.engine_call.proofs.Checks.{through, same-state}
+use Rattle.engine_write.specs.Sync.{synced}
+use Rattle.engine_write.specs.Flush.{flush}
+use Rattle.engine_read.specs.Read.{Found, entry, no-entry, found, readDone, readChecks, readRuns}
+use Rattle.engine_read.specs.Seek.{seekChecks}
+use Rattle.engine_laws.specs.Call as engine
+use Rattle.engine_laws.specs.Call.{complete, unlessDue}
+use Rattle.engine_laws.proofs.Calls.{endOf, complete-is, by-pick, by-unless, by-call}
+use Rattle.engine_laws.proofs.CallKeeps.{call-keeps}
+use Rattle.bench_flash.specs.Flash.{Operation, no-operation, writing, Left, underWay}
+use Rattle.bench_flash.specs.Event as event
+use Rattle.bench.specs.World.{World, lentBy, unended, erasedSlot, Step, delivered, undelivered, stepOn, stepOff, step}
+use Rattle.bench.specs.Book.{Book, asked, recorded}
+use Rattle.bench.proofs.Invariant.{Books, Under, Running, Powered, Inv, After}
+use Rattle.bench.proofs.Invariant as under
+use Rattle.bench.proofs.BookSteps.{recorded-call}
+use Rattle.bench.proofs.Gates.{Still, stops, goes}
 
 -- a state in which nothing is under way, and no erase
 pub data Rests : State → Type 0 where
@@ -36,180 +39,201 @@ pub data Rests : State → Type 0 where
   at-read : Rests Read
   at-seek : Rests Seek
 
--- how a call that starts nothing may change the log
-pub data Turn (l l' : Log) : Type 0 where
-  same : l' .state ≡ l .state → l' .kept ≡ l .kept → Turn l l'
-  rests : Rests (l .state) → Rests (l' .state) → Turn l l'
-
-pub record Quiet (l : Log) (o : Outcome) : Type 0 where
-  pub geometry : o .log .geometry ≡ l .geometry
-  pub mode : o .log .circular ≡ l .circular
-  pub oldest : o .log .oldest ≡ l .oldest
-  pub append : o .log .append ≡ l .append
-  pub request : o .request ≡ answer.none
-  pub turn : Turn l (o .log)
-
--- a refusal
-pub quiet-refusal : (l : Log) (a : ℕ) → Quiet l (refusal l a)
-quiet-refusal l a = record { geometry = refl; mode = refl; oldest = refl; append = refl; request = refl; turn = same refl refl }
-
--- a call or its refusal
-pub quiet-unless : (c : Option ℕ) (l : Log) (o : Outcome) → (c ≡ none → Quiet l o) → Quiet l (unless c l o)
-quiet-unless none l o h = h refl
-quiet-unless (some a) l o h = quiet-refusal l a
-
--- one of two calls
-pub quiet-pick : (t : Bool) (l : Log) (o o' : Outcome) → Quiet l o → Quiet l o' → Quiet l (pick t o o')
-quiet-pick true l o o' h h' = h
-quiet-pick false l o o' h h' = h'
-
 -- an idle log rests
 pub idle-rests : {s : State} → s ≡ Idle → Rests s
 idle-rests e = subst Rests (sym e) at-idle
 
--- a read
-quiet-length : (w : ℕ) (l : Log) (n id : ℕ) (a : Answered) → l .state ≡ Idle → Quiet l (readLength w l n id a)
-quiet-length w l n id (refuses a) i = quiet-refusal l a
-quiet-length w l n id (gives size) i =
-    quiet-pick (ltb n size) l (refusal l SIZE) (readEntry w l id size) (quiet-refusal l SIZE)
-    (record { geometry = refl; mode = refl; oldest = refl; append = refl; request = refl; turn = rests (idle-rests i) at-read })
+-- so does one that is due for a deferred call
+deferred-rests : (l : Log) (s : State) → l .state ≡ s → unlessDeferred l .test ≡ false → Rests s
+deferred-rests l Idle i e = at-idle
+deferred-rests l Read i e = at-read
+deferred-rests l Seek i e = at-seek
+deferred-rests l Append i e = absurd (true≢false (rw i at e))
+deferred-rests l Sync i e = absurd (true≢false (rw i at e))
+deferred-rests l Erase i e = absurd (true≢false (rw i at e))
 
--- by where it reads
-quiet-place : (w : ℕ) (l : Log) (volume page : List ℕ) (n : ℕ) (a : Answered) → l .state ≡ Idle → Quiet l (readPlace w l volume page n a)
-quiet-place w l volume page n (refuses a) i = quiet-refusal l a
-quiet-place w l volume page n (gives id) i = quiet-length w l n id (entryLength w (l .geometry .p) (l .append) volume page id) i
-
--- a read that passed its checks
-quiet-runs : (w : ℕ) (l : Log) (volume page : List ℕ) (n : ℕ) → l .state ≡ Idle → Quiet l (readRuns w l volume page n)
-unfolding readRuns
-quiet-runs w l volume page n i =
-    quiet-pick (ltb (l .append) (l .read)) l (canceled l) (unless (unlessSet (l .read-client)) l (readPlace w l volume page n (found w l volume page)))
-    (record { geometry = refl; mode = refl; oldest = refl; append = refl; request = refl; turn = same refl refl })
-    (quiet-unless (unlessSet (l .read-client)) l (readPlace w l volume page n (found w l volume page)) (λ e. quiet-place w l volume page n (found w l volume page) i))
-
--- every read
-pub quiet-read : (w : ℕ) (l : Log) (volume page : List ℕ) (hold room n : ℕ) → Quiet l (unless (readChecks w l (length volume) (length page) hold room n) l (readRuns w l volume page n))
-unfolding readRefusal
-quiet-read w l volume page hold room n =
-    quiet-unless (readChecks w l (length volume) (length page) hold room n) l (readRuns w l volume page n)
-    (λ e. quiet-runs w l volume page n (is-idle (l .state) (or-none (unlessIdle (l .state)) _ (or-none (gate w l (length volume) (length page) hold) _ e .1) .0)))
-
--- a seek
-pub quiet-seek : (w : ℕ) (l : Log) (volume page hold id : ℕ) → Quiet l (seeking.seek w l volume page hold id)
-unfolding seeking.seek seekRefusal
-quiet-seek w l volume page hold id =
-    quiet-unless (orElse (gate w l volume page hold) (seekRefusal l id)) l (sought l id)
-    (λ e. record {
-      geometry = refl;
-      mode = refl;
-      oldest = refl;
-      append = refl;
-      request = refl;
-      turn = rests (idle-rests (is-idle (l .state) (or-none (unlessIdle (l .state)) _ (or-none (gate w l volume page hold) (seekRefusal l id) e .1) .0))) at-seek;
-    })
-
--- a deferred call that is due
-deferred-rests : (s : State) → unlessDeferred s ≡ none → Rests s
-deferred-rests Idle e = at-idle
-deferred-rests Read e = at-read
-deferred-rests Seek e = at-seek
-deferred-rests Append e = let z : _≡_ {A = ℕ} 0 1 = cc in absurd (omega arith)
-deferred-rests Sync e = let z : _≡_ {A = ℕ} 0 1 = cc in absurd (omega arith)
-deferred-rests Erase e = let z : _≡_ {A = ℕ} 0 1 = cc in absurd (omega arith)
-
--- every deferred call
-pub quiet-deferred : (w : ℕ) (l : Log) (volume page hold : ℕ) → Quiet l (deferred w l volume page hold)
-unfolding deferred
-quiet-deferred w l volume page hold =
-    quiet-unless (orElse (gate w l volume page hold) (unlessDeferred (l .state))) l _
-    (λ e. record {
-      geometry = refl;
-      mode = refl;
-      oldest = refl;
-      append = refl;
-      request = refl;
-      turn = rests (deferred-rests (l .state) (or-none (gate w l volume page hold) (unlessDeferred (l .state)) e .1)) at-idle;
-    })
-
--- what is under way in a world with the same buffers and kept length
-pub under-same : {w : ℕ} {g : Geometry} {circular : Bool} {x x' : World} {b : Book} {o : ℕ} {s : State} {op : Operation}
-    → x' .page ≡ x .page → x' .hold ≡ x .hold → x' .log .kept ≡ x .log .kept → Under w g circular x b o s op → Under w g circular x' b o s op
-under-same p h k idle = idle
-under-same p h k read = read
-under-same p h k seek = seek
-under-same p h k stuck = stuck
-under-same p h k (erase e) = erase e
-under-same p h k (sync a) = sync (record { room = a .room; some-entry = a .some-entry; bytes = p ∙ a .bytes })
-under-same {b = b} p h k (append a c) =
-    append (record { room = a .room; some-entry = a .some-entry; bytes = p ∙ a .bytes })
-    (record { kept = k ∙ c .kept; some-byte = c .some-byte; fits = c .fits; held = ap (λ (l : List ℕ). take (length (b .waiting)) l) h ∙ c .held; next = c .next })
+-- a state in which every call but a completion only answers
+abbrev Busy : State → Type 0
+Busy s = (not (is s Idle) ≡ true) × (not (is s Read || is s Seek || is s Idle) ≡ true)
 
 -- where the state rests, nothing is under way
-pub under-nothing : {w : ℕ} {g : Geometry} {circular : Bool} {x : World} {b : Book} {o : ℕ} {s : State} {op : Operation} → Rests s → Under w g circular x b o s op → op ≡ nothing
-under-nothing at-idle idle = refl
-under-nothing at-read read = refl
-under-nothing at-seek seek = refl
+pub under-nothing : {g : Setup} {page hold : List ℕ} {kept : ℕ} {b : Book} {o : ℕ} {s : State} {op : Operation} → Rests s
+    → Under g page hold kept b o s op → op ≡ no-operation
+under-nothing at-idle under.idle = refl
+under-nothing at-read under.read = refl
+under-nothing at-seek under.seek = refl
 
 -- and where nothing is under way, the state may rest
-pub under-rests : {w : ℕ} {g : Geometry} {circular : Bool} {x : World} {b : Book} {o : ℕ} {s : State} {op : Operation} → Rests s → op ≡ nothing → Under w g circular x b o s op
-under-rests {w} {g} {circular} {x} {b} {o} {s} {op} r e = subst (Under w g circular x b o s) (sym e) (go s r)
+pub under-rests : {g : Setup} {page hold : List ℕ} {kept : ℕ} {b : Book} {o : ℕ} {s : State} {op : Operation} → Rests s → op ≡ no-operation
+    → Under g page hold kept b o s op
+under-rests {g} {page} {hold} {kept} {b} {o} {s} r e = subst (Under g page hold kept b o s) (sym e) (go s r)
   where
-    go : (s : State) → Rests s → Under w g circular x b o s nothing
-    go Idle at-idle = idle
-    go Read at-read = read
-    go Seek at-seek = seek
+    go : (s : State) → Rests s → Under g page hold kept b o s no-operation
+    go Idle at-idle = under.idle
+    go Read at-read = under.read
+    go Seek at-seek = under.seek
 
--- a quiet call keeps what holds with the power on
-pub running-quiet : {w : ℕ} {g : Geometry} {circular : Bool} {x : World} {b : Book} → Running w g circular x b → (o : Outcome) → Quiet (x .log) o → stateFits w (o .log) ≡ true
-    → Running w g circular (withLog x (o .log)) b
-running-quiet {w} {g} {circular} {x} {b} r o q fits = record {
-  geometry = q .geometry ∙ r .geometry;
-  mode = q .mode ∙ r .mode;
-  page-length = r .page-length;
-  hold-length = r .hold-length;
-  fits = fits;
-  appends = q .append ∙ r .appends;
-  begins = r .begins;
-  oldest-page = r .oldest-page;
-  oldest = q .oldest ∙ r .oldest;
-  oldest-near = r .oldest-near;
-  live = r .live;
-  under = go (q .turn);
+-- what a quiet call gives and leaves
+abbrev pub quietly : Log → Lent → State → ℕ → ℕ → ℕ → Report → Done
+quietly l x state at kept answer report = record {
+  outcome = record { log = moved l state (l .oldest) at (l .append) kept; answer = answer; report = report; request = no-request };
+  page = x .page;
+  hold = x .hold;
 }
-  where
-    go : Turn (x .log) (o .log) → Under w g circular (withLog x (o .log)) b (r .oldest-page) (o .log .state) (x .operation)
-    go (same s k) = subst (λ (t : State). Under w g circular (withLog x (o .log)) b (r .oldest-page) t (x .operation)) (sym s) (under-same refl refl k (r .under))
-    go (rests a c) = under-rests c (under-nothing a (r .under))
+
+-- state and kept length stay; or the log rests before and after
+pub data Quiet (l : Log) (x : Lent) : Done → Type 0 where
+  stays : (at answer : ℕ) → Quiet l x (quietly l x (l .state) at (l .kept) answer no-report)
+  rests : Rests (l .state) → {s : State} → Rests s → (at kept answer : ℕ) (report : Report) → Quiet l x (quietly l x s at kept answer report)
+
+-- it has no request
+quiet-request : {l : Log} {x : Lent} {d : Done} → Quiet l x d → d .outcome .request ≡ no-request
+quiet-request (stays at answer) = refl
+quiet-request (rests a c at kept answer report) = refl
+
+module _ (l : Log) (x : Lent) where
+  -- an answer alone
+  quiet-still : (a : ℕ) → Quiet l x (still l x a)
+  quiet-still a = stays (l .read) a
+
+  -- a read, by what it finds
+  quiet-found : (f : Found) → l .state ≡ Idle → Quiet l x (readDone l x f)
+  quiet-found (no-entry a) i = quiet-still a
+  quiet-found (entry id size) i = rests (idle-rests i) at-read (id + l .setup .w + size) size OK no-report
+
+  -- every read
+  pub quiet-read : (room n : ℕ) → Quiet l x (engine.call l x (read room n))
+  unfolding readRuns
+  quiet-read room n =
+      by-call (Quiet l x) l x quiet-still (read room n)
+      (λ h pass. let t = through (readChecks l room n) pass in
+      by-pick (Quiet l x) (ltb (l .append) (l .read)) (λ c. stays (l .oldest) CANCEL)
+      (λ c. by-unless (Quiet l x) l x quiet-still (firstOf (unlessSet (l .read-client) ∷ []))
+      (λ d. quiet-found (found l x n) (same-state (l .state) Idle (not-false _ (t .0))))))
+
+  -- every seek
+  pub quiet-seek : (id : ℕ) → Quiet l x (engine.call l x (seek id))
+  quiet-seek id =
+      by-call (Quiet l x) l x quiet-still (seek id)
+      (λ h pass. let t = through (seekChecks l id) pass in
+      rests (idle-rests (same-state (l .state) Idle (not-false _ (t .0)))) at-seek id (l .kept) OK no-report)
+
+  -- every deferred call
+  pub quiet-deferred : Quiet l x (engine.call l x deferred)
+  quiet-deferred =
+      by-call (Quiet l x) l x quiet-still deferred
+      (λ h pass. let t = through (unlessDeferred l ∷ []) pass in rests (deferred-rests l (l .state) refl (t .0)) at-idle (l .read) (l .kept) OK _)
+
+  -- a completion that isn't due is refused
+  stray-still : (c : Completion) → unlessDue l c .test ≡ true → Still l x (complete l x c)
+  stray-still c t = subst (Still l x) (sym (complete-is l x c)) (stops l x (unlessDue l c) [] (endOf l x c) t)
+
+  -- in Append, Sync and Erase a call only answers
+  busy-still : Busy (l .state) → (c : Call) → Still l x (engine.call l x c)
+  busy-still (i, d) (append bytes n word) = stops l x (unlessIdle l) _ _ i
+  busy-still (i, d) (sync word) = go (synced l) refl
+    where
+      go : (t : Bool) → synced l ≡ t → Still l x (engine.call l x (sync word))
+      go true e = stops l x (stopIf (synced l) OK) (unlessFree l) _ e
+      go false e =
+          let s = stops l x (unlessIdle l) (unlessSet (l .append-client) ∷ []) (flush l x Sync (l .kept) word) i in
+          record { answer = s .answer; is = goes l x (stopIf (synced l) OK) (unlessFree l) (flush l x Sync (l .kept) word) e ∙ s .is }
+  busy-still (i, d) (read room n) = stops l x (unlessIdle l) _ _ i
+  busy-still (i, d) (seek id) = stops l x (unlessIdle l) _ _ i
+  busy-still (i, d) deferred = stops l x (unlessDeferred l) [] _ d
+  busy-still (i, d) (erase word) = stops l x (unlessIdle l) _ _ i
+
+-- a completion that isn't of the operation under way: it comes only where STRAY refuses it
+abbrev pub strayStep : Setup → World → Completion → Step
+strayStep g x c =
+    pick (unlessDue (x .log) c .test) (delivered (g .first) x unended (complete (x .log) (lentBy x) c) (completionWord c)) (undelivered x)
 
 -- a request that isn't made starts nothing
-pub no-start : (op : Operation) (word : Word) (first : ℕ) → started op answer.none word first ≡ op
+pub no-start : (op : Operation) (word : Word) (first : ℕ) → underWay op no-request word first ≡ op
 no-start op ok first = refl
 no-start op busy first = refl
 no-start op fail first = refl
 
--- a world with the power on; the sizes and the mode are the log's own
-module _ {w : ℕ} {x : World} {b : Book} (bk : Books w (x .log .geometry) (x .log .circular) (x .volume) b) (r : Running w (x .log .geometry) (x .log .circular) x b) (word : Word) where
+-- a world with the power on; the setup is the log's own
+module _ {x : World} {b : Book} (bk : Books (x .log .setup) (x .volume) b) (r : Running (x .log .setup) x b) where
+  abbrev g : Setup
+  g = x .log .setup
+
   -- a quiet call keeps the invariant
-  pub quiet-inv : (o : Outcome) → Quiet (x .log) o → stateFits w (o .log) ≡ true
-      → Inv w (x .log .geometry) (x .log .circular) (delivered (x .log .geometry .first) x unended (record { outcome = o; page = x .page; hold = x .hold }) word .world) b
-  quiet-inv o q s =
-      let same : started (x .operation) (o .request) word (x .log .geometry .first) ≡ x .operation =
-      ap (λ (u : Request). started (x .operation) u word (x .log .geometry .first)) (q .request) ∙ no-start (x .operation) word (x .log .geometry .first) in
-      subst (λ (op : Operation). Inv w (x .log .geometry) (x .log .circular) (record { power = true; log = o .log; page = x .page; hold = x .hold; volume = x .volume; operation = op }) b)
-      (sym same)
-      (record { books = bk; powered = running-quiet r o q s })
+  pub quiet-inv : (word : Word) {d : Done} → Quiet (x .log) (lentBy x) d → stateFits (d .outcome .log) ≡ true
+      → Inv g (delivered (g .first) x unended d word .world) b
+  quiet-inv word (stays at answer) fits =
+      rw (no-start (x .operation) word (g .first)) (record {
+        books = bk;
+        powered = record { setup = refl; hold-length = r .hold-length; fits = fits; buffer = r .buffer; oldest = r .oldest; under = r .under };
+      })
+  quiet-inv word (rests a c at kept answer report) fits =
+      rw (no-start (x .operation) word (g .first)) (record {
+        books = bk;
+        powered = record {
+          setup = refl;
+          hold-length = r .hold-length;
+          fits = fits;
+          buffer = r .buffer;
+          oldest = r .oldest;
+          under = under-rests c (under-nothing a (r .under));
+        };
+      })
 
   -- a refused call leaves all as it was
-  pub refused-inv : (a : ℕ)
-      → Inv w (x .log .geometry) (x .log .circular) (delivered (x .log .geometry .first) x unended (record { outcome = refusal (x .log) a; page = x .page; hold = x .hold }) word .world) b
-  refused-inv a = quiet-inv (refusal (x .log) a) (quiet-refusal (x .log) a) (r .fits)
+  pub refused-inv : (word : Word) (a : ℕ) → Inv g (delivered (g .first) x unended (still (x .log) (lentBy x) a) word .world) b
+  refused-inv word a = quiet-inv word (quiet-still (x .log) (lentBy x) a) (r .fits)
 
-  -- so does a completion that STRAY refuses, where the book doesn't change by hearing of a refusal
-  pub stray-inv : (hears : Heard → Book) → ((a : ℕ) → hears (heard (x .log .geometry .first) unended (refusal (x .log) a)) ≡ b) → (c u : Option ℕ) (a : ℕ) → u ≡ some a → (o : Outcome) (page : List ℕ)
-      → Inv w (x .log .geometry) (x .log .circular)
-      (strayStep x u (delivered (x .log .geometry .first) x unended (record { outcome = unless (orElse c u) (x .log) o; page = keep (orElse c u) (x .page) page; hold = x .hold }) word) .world)
-      (hears
-      (strayStep x u (delivered (x .log .geometry .first) x unended (record { outcome = unless (orElse c u) (x .log) o; page = keep (orElse c u) (x .page) page; hold = x .hold }) word) .told))
-  stray-inv hears still c none a e o page = let z : _≡_ {A = ℕ} 0 1 = cc in absurd (omega arith)
-  stray-inv hears still none (some s) a e o page = subst (Inv w (x .log .geometry) (x .log .circular) _) (sym (still s)) (refused-inv s)
-  stray-inv hears still (some t) (some s) a e o page = subst (Inv w (x .log .geometry) (x .log .circular) _) (sym (still t)) (refused-inv t)
+  -- the event of a quiet call that brings no data keeps the invariant
+  pub quiet-step : (c : Call) → appendData c ≡ none → Quiet (x .log) (lentBy x) (engine.call (x .log) (lentBy x) c)
+      → After g b (event.call c) (stepOn g x (event.call c))
+  quiet-step c n q =
+      let s : Step = stepOn g x (event.call c) in
+      let same : recorded g b (event.call c) (s .told) ≡ b =
+      recorded-call g b c n (s .told) refl ∙ ap (λ (u : Request). asked b (erasedSlot (g .first) u)) (quiet-request q) in
+      subst (Inv g (s .world)) (sym same) (quiet-inv (callWord c) q (call-keeps (x .log) (lentBy x) c (r .fits)))
+
+  -- a completion that isn't of the operation under way keeps it: STRAY refuses it, or it doesn't come
+  pub stray-inv : Inv g x b → (c : Completion) (left : Left) → After g b (event.completion c left) (strayStep g x c)
+  unfolding recorded
+  stray-inv v c left = go (unlessDue (x .log) c .test) refl
+    where
+      come : Done → Step
+      come d = delivered (g .first) x unended d (completionWord c)
+
+      go : (t : Bool) → unlessDue (x .log) c .test ≡ t → After g b (event.completion c left) (pick t (come (complete (x .log) (lentBy x) c)) (undelivered x))
+      go true t =
+          let s = stray-still (x .log) (lentBy x) c t in
+          subst (λ (d : Done). After g b (event.completion c left) (come d)) (sym (s .is)) (refused-inv (completionWord c) (s .answer))
+      go false t = v
+
+-- where something is under way, the state is neither Idle nor due for a deferred call
+under-busy : {g : Setup} {page hold : List ℕ} {kept : ℕ} {b : Book} {o : ℕ} {s : State} {op : Operation} → Under g page hold kept b o s op
+    → (op ≡ no-operation) ⊎ Busy s
+under-busy under.idle = inl refl
+under-busy under.read = inl refl
+under-busy under.seek = inl refl
+under-busy under.stuck = inl refl
+under-busy (under.erase e) = inr (refl, refl)
+under-busy (under.sync a) = inr (refl, refl)
+under-busy (under.append a c) = inr (refl, refl)
+
+-- while a write is under way, no call changes the page buffer or the operation: the page that a completion writes is the page that was requested
+pub writing-keeps : {g : Setup} {x : World} {b : Book} → Inv g x b → {s : ℕ} → x .operation ≡ writing s → (c : Call)
+    → (step g x (event.call c) .world .page ≡ x .page) × (step g x (event.call c) .world .operation ≡ writing s)
+unfolding step
+writing-keeps {g} {x} {b} v {s} e c = go (x .power) (v .powered)
+  where
+    Same : Step → Type 0
+    Same y = (y .world .page ≡ x .page) × (y .world .operation ≡ writing s)
+
+    busy-same : (x .operation ≡ no-operation) ⊎ Busy (x .log .state) → Same (stepOn g x (event.call c))
+    busy-same (inl n) = let z : _≡_ {A = ℕ} 0 1 = cc in absurd (omega arith)
+    busy-same (inr i) =
+        let d = busy-still (x .log) (lentBy x) i c in
+        let starts : Request → Operation = λ (q : Request). underWay (x .operation) q (callWord c) (g .first) in
+        (ap (λ (d : Done). d .page) (d .is), ap (λ (d : Done). starts (d .outcome .request)) (d .is) ∙ no-start (x .operation) (callWord c) (g .first) ∙ e)
+
+    go : (p : Bool) → Powered g x b p → Same (pick p (stepOn g x (event.call c)) (stepOff g x (event.call c)))
+    go true r = busy-same (under-busy (r .under))
+    go false n = (refl, e)

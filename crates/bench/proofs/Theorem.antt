@@ -1,225 +1,164 @@
--- Demand 3: one step keeps the invariant; the invariant gives the promise at a restart; so every list keeps the promise.
-use Prim.Native.Nat.{ℕ, _+_, _*_, _≤_}
-use mathlib.Core.Path.{_≡_, refl, sym, _∙_, subst}
+-- Demand 3: one step keeps the invariant; the invariant gives the promise at a restart; so every list keeps the promise. g is the setup.
+use Prim.Native.Nat.{ℕ, _*_, _≤_}
+use mathlib.Core.Path.{_≡_, refl, sym, ap, _∙_, subst}
 use mathlib.Core.Bool.{Bool, true, false, true≢false}
 use mathlib.Core.List.{List, [], _∷_, _++_}
 use mathlib.Core.Option.{Option, none, some, Option·some-injective}
 use native.Mathlib.Omega.{arith}
-use native.Mathlib.Decide.{ℕ-discrete}
 use lib.ListN.{length}
-use Rattle.page.specs.Sizes.{Width, Sizes}
-use Rattle.log.specs.Answer.{OK, SHAPE}
-use Rattle.log.specs.Log.{Geometry, Log}
-use Rattle.log.specs.Check.{sizesFit, shapeFits}
-use Rattle.recovery.specs.Restart.{restart}
-use Rattle.log.proofs.Checks.{sizes-fit, shape-fits, sizes-of}
-use Rattle.call.specs.Outcome.{ok}
-use Rattle.engine.proofs.ReadsKeep.{read-keeps, seek-keeps, deferred-keeps}
-use Rattle.flash.specs.Flash.{Left, Erased}
-use Rattle.events.specs.Event as event
-use Rattle.events.specs.Event.{Event}
-use Rattle.bench.specs.World.{World, unended, endedBy, afterEnd, stepOn, stepOff, stepBy, step}
-use Rattle.bench.specs.Book.{Book, emptyBook, leftIn, note}
-use Rattle.bench.specs.Promise.{Bench, stepped, run, entryOf, Clear, AllClear, NoHeader, Promised, AllPromised, start}
-use Rattle.bench.proofs.Invariant.{Has, Powered, Running, Inv}
-use Rattle.bench.proofs.Quiet.{quiet-read, quiet-seek, quiet-deferred, quiet-inv}
-use Rattle.bench.proofs.BookSteps.{books-none}
-use Rattle.bench.proofs.AppendStep.{append-step}
-use Rattle.bench.proofs.SyncStep.{sync-step}
-use Rattle.bench.proofs.WriteStep.{write-step}
-use Rattle.bench.proofs.EraseStep.{erase-step, erase-complete-step}
-use Rattle.bench.proofs.CutStep.{cut-books, cut-step}
-use Rattle.bench.proofs.RestartStep.{Restarts, restart-keeps}
+use Rattle.page.specs.Pick.{pick}
+use Rattle.engine_state.specs.Answer.{OK, SHAPE}
+use Rattle.engine_state.specs.Log.{Setup, Log}
+use Rattle.engine_state.specs.Check.{Sized, shapeFits}
+use Rattle.engine_state.proofs.Checks.{shape-fits}
+use Rattle.engine_call.specs.Call.{appendData}
+use Rattle.engine_restart.specs.Restart as log
+use Rattle.bench_flash.specs.Event.{Restart, Event, call, completion, cut, restart}
+use Rattle.bench.specs.World.{World, unended, Step, quiet, endedBy, ending, stepOn, stepOff, step}
+use Rattle.bench.specs.Book.{Book, emptyBook, leftIn, entryOf, waits, recorded}
+use Rattle.bench.specs.Promise.{Bench, stepped, steppedAll, Clear, AllClear, NoHeader, Promised, AllPromised, start}
+use Rattle.bench.proofs.Invariant.{Powered, Running, Inv, After}
+use Rattle.bench.proofs.BookPages.{no-page}
+use Rattle.bench.proofs.BookSteps.{books-none, books-ended}
+use Rattle.bench.proofs.CutStep.{call-step, completion-step, cut-step}
+use Rattle.bench.proofs.RestartStep.{restart-keeps}
+
+-- the world and the book after an event
+abbrev pub benchAfter : Setup → Book → Event → Step → Bench
+benchAfter g b e t = record { world = t .world; book = recorded g b e (t .told) }
 
 -- what an event keeps and what is promised of it
-pub record Keeps (w : ℕ) (g : Geometry) (circular : Bool) (e : Event) (a : Option ℕ) (s : Bench) : Type 0 where
-  pub keeps : Inv w g circular (s .world) (s .book)
-  pub promised : Promised w g e a s
+pub record Keeps (g : Setup) (b : Book) (e : Event) (t : Step) : Type 0 where
+  pub keeps : After g b e t
+  pub promised : Promised g e (t .told .answer) (benchAfter g b e t)
 
--- the world and the book after an event, with the power on and off
-abbrev pub onBench : ℕ → Geometry → Bool → World → Book → Event → Bench
-onBench w g circular x b e = record { world = stepOn w g circular x e .world; book = note w g circular b e (stepOn w g circular x e .told) }
+-- an event with the power on; the setup is the log's own
+on-own : (x : World) (b : Book) → Inv (x .log .setup) x b → Running (x .log .setup) x b → (e : Event)
+    → Clear (entryOf b e (stepOn (x .log .setup) x e .told)) → Keeps (x .log .setup) b e (stepOn (x .log .setup) x e)
+unfolding recorded
+on-own x b i r (call c) clear = record { keeps = call-step i r c clear; promised = tt }
+on-own x b i r (completion c left) clear = record { keeps = completion-step i r c left clear; promised = tt }
+on-own x b i r (cut left) clear = record { keeps = cut-step i r left; promised = tt }
+on-own x b i r (restart a) clear =
+    let g = x .log .setup in
+    let left : Book = leftIn (g .n) b (endedBy (x .operation) (a .left)) in
+    let q = restart-keeps (ending (g .p) x false (a .left)) left (books-ended (i .books) (r .under) (a .left)) a in
+    record { keeps = q .keeps; promised = q .finds }
 
-abbrev pub offBench : ℕ → Geometry → Bool → World → Book → Event → Bench
-offBench w g circular x b e = record { world = stepOff w g circular x e .world; book = note w g circular b e (stepOff w g circular x e .told) }
-
--- an answer OK of a restart
-some-ok : {a : ℕ} → some a ≡ some OK → a ≡ OK
-some-ok {a} e = Option·some-injective a OK e
-
--- a restart's promise
-restart-kept : {w : ℕ} {g : Geometry} {circular : Bool} {x : World} {b : Book} {a : ℕ} {left : Left} {wipe : Erased} {read-client append-client : Bool} {page hold : List ℕ}
-    → Restarts w g circular x b a → Keeps w g circular (event.restart left wipe read-client append-client page hold) (some a) (record { world = x; book = b })
-restart-kept q = record { keeps = q .keeps; promised = λ e. q .finds (some-ok e) }
-
--- an event with the power on; the sizes and the mode are the log's own
-on-own : {w : ℕ} (x : World) (b : Book) → Inv w (x .log .geometry) (x .log .circular) x b → Running w (x .log .geometry) (x .log .circular) x b → (e : Event)
-    → Clear (entryOf b e (stepOn w (x .log .geometry) (x .log .circular) x e .told))
-    → Keeps w (x .log .geometry) (x .log .circular) e (stepOn w (x .log .geometry) (x .log .circular) x e .told .answer) (onBench w (x .log .geometry) (x .log .circular) x b e)
-unfolding note
-on-own x b i r (event.append bytes n word) clear = record { keeps = append-step x b (i .books) r bytes n word clear; promised = tt }
-on-own {w} x b i r (event.read room n) clear = record {
-  keeps = quiet-inv (i .books) r ok _ (quiet-read w (x .log) (x .volume) (x .page) (length (x .hold)) room n)
-      (read-keeps (i .books .sizes .page .width) (x .log) (x .volume) (x .page) (length (x .hold)) room n (r .fits));
-  promised = tt;
-}
-on-own {w} x b i r (event.seek id) clear = record {
-  keeps = quiet-inv (i .books) r ok _ (quiet-seek w (x .log) (length (x .volume)) (length (x .page)) (length (x .hold)) id)
-      (seek-keeps w (x .log) (length (x .volume)) (length (x .page)) (length (x .hold)) id (r .fits));
-  promised = tt;
-}
-on-own x b i r (event.sync word) clear = record { keeps = sync-step x b (i .books) r word; promised = tt }
-on-own x b i r (event.erase word) clear = record { keeps = erase-step x b (i .books) r word; promised = tt }
-on-own {w} x b i r event.deferred clear = record {
-  keeps = quiet-inv (i .books) r ok _ (quiet-deferred w (x .log) (length (x .volume)) (length (x .page)) (length (x .hold)))
-      (deferred-keeps w (x .log) (length (x .volume)) (length (x .page)) (length (x .hold)) (r .fits));
-  promised = tt;
-}
-on-own x b i r (event.write-complete good left) clear = record { keeps = write-step x b i r good left clear; promised = tt }
-on-own x b i r (event.erase-complete good left word) clear = record { keeps = erase-complete-step x b i r good left word; promised = tt }
-on-own x b i r (event.cut left wipe) clear = record { keeps = cut-step x b (i .books) r left wipe; promised = tt }
-on-own {w} x b i r (event.restart left wipe read-client append-client page hold) clear =
-    restart-kept (restart-keeps x (leftIn (x .log .geometry .n) b (endedBy (x .operation) left wipe)) (afterEnd (x .log .geometry .p) x (x .operation) left wipe .volume) (cut-books x b (i .books) r left wipe) read-client append-client page hold
-    (endedBy (x .operation) left wipe))
-
--- the same for any sizes and mode that are the log's
-on-keeps : {w : ℕ} {g : Geometry} {circular : Bool} (x : World) (b : Book) → Inv w g circular x b → Running w g circular x b → (e : Event)
-    → Clear (entryOf b e (stepOn w g circular x e .told)) → Keeps w g circular e (stepOn w g circular x e .told .answer) (onBench w g circular x b e)
-on-keeps {w} {g} {circular} x b i r e =
-    subst (λ (c : Bool). Inv w g c x b → Running w g c x b → Clear (entryOf b e (stepOn w g c x e .told)) → Keeps w g c e (stepOn w g c x e .told .answer) (onBench w g c x b e)) (r .mode)
-    (subst (λ (h : Geometry). Inv w h (x .log .circular) x b → Running w h (x .log .circular) x b → Clear (entryOf b e (stepOn w h (x .log .circular) x e .told))
-    → Keeps w h (x .log .circular) e (stepOn w h (x .log .circular) x e .told .answer) (onBench w h (x .log .circular) x b e)) (r .geometry)
-    (λ i' r'. on-own x b i' r' e))
+-- the same for any setup that is the log's
+on-keeps : {g : Setup} (x : World) (b : Book) → Inv g x b → Running g x b → (e : Event) → Clear (entryOf b e (stepOn g x e .told))
+    → Keeps g b e (stepOn g x e)
+on-keeps x b i r e =
+    subst (λ (h : Setup). Inv h x b → Running h x b → Clear (entryOf b e (stepOn h x e .told)) → Keeps h b e (stepOn h x e)) (r .setup)
+    (λ i' r'. on-own x b i' r' e)
     i r
 
+-- an append that isn't delivered brings no data
+waits-not : (b : Book) (d : Option (List ℕ)) → waits b d (quiet unended) ≡ b
+waits-not b none = refl
+waits-not b (some e) = refl
+
 -- an event with the power off
-off-keeps : {w : ℕ} {g : Geometry} {circular : Bool} (x : World) (b : Book) → Inv w g circular x b → (e : Event)
-    → Keeps w g circular e (stepOff w g circular x e .told .answer) (offBench w g circular x b e)
-unfolding note
-off-keeps x b i (event.restart left wipe read-client append-client page hold) = restart-kept (restart-keeps x b (x .volume) (i .books) read-client append-client page hold unended)
-off-keeps x b i (event.append bytes n word) = record { keeps = i; promised = tt }
-off-keeps x b i (event.read room n) = record { keeps = i; promised = tt }
-off-keeps x b i (event.seek id) = record { keeps = i; promised = tt }
-off-keeps x b i (event.sync word) = record { keeps = i; promised = tt }
-off-keeps x b i (event.erase word) = record { keeps = i; promised = tt }
-off-keeps x b i event.deferred = record { keeps = i; promised = tt }
-off-keeps x b i (event.write-complete good left) = record { keeps = i; promised = tt }
-off-keeps x b i (event.erase-complete good left word) = record { keeps = i; promised = tt }
-off-keeps x b i (event.cut left wipe) = record { keeps = i; promised = tt }
+off-keeps : {g : Setup} (x : World) (b : Book) → Inv g x b → (e : Event) → Keeps g b e (stepOff g x e)
+unfolding recorded
+off-keeps x b i (call c) = record { keeps = rw (waits-not b (appendData c)) i; promised = tt }
+off-keeps x b i (completion c left) = record { keeps = i; promised = tt }
+off-keeps x b i (cut left) = record { keeps = i; promised = tt }
+off-keeps x b i (restart r) = let q = restart-keeps x b (i .books) r in record { keeps = q .keeps; promised = q .finds }
 
 -- one step keeps the invariant, and a restart that isn't refused finds what the book says
-pub step-keeps : {w : ℕ} {g : Geometry} {circular : Bool} (s : Bench) → Inv w g circular (s .world) (s .book) → (e : Event)
-    → Clear (entryOf (s .book) e (step w g circular (s .world) e .told)) → Keeps w g circular e (step w g circular (s .world) e .told .answer) (stepped w g circular s e)
+pub step-keeps : {g : Setup} (s : Bench) → Inv g (s .world) (s .book) → (e : Event) → Clear (entryOf (s .book) e (step g (s .world) e .told))
+    → Keeps g (s .book) e (step g (s .world) e)
 unfolding step
-step-keeps {w} {g} {circular} s i e clear = go (s .world .power) (i .powered) clear
+step-keeps {g} s i e clear = go (s .world .power) (i .powered) clear
   where
-    go : (p : Bool) → Powered w g circular (s .world) (s .book) p → Clear (entryOf (s .book) e (stepBy w g circular (s .world) e p .told))
-        → Keeps w g circular e (stepBy w g circular (s .world) e p .told .answer)
-        (record { world = stepBy w g circular (s .world) e p .world; book = note w g circular (s .book) e (stepBy w g circular (s .world) e p .told) })
+    by : Bool → Step
+    by t = pick t (stepOn g (s .world) e) (stepOff g (s .world) e)
+
+    go : (t : Bool) → Powered g (s .world) (s .book) t → Clear (entryOf (s .book) e (by t .told)) → Keeps g (s .book) e (by t)
     go true r c = on-keeps (s .world) (s .book) i r e c
     go false r c = off-keeps (s .world) (s .book) i e
 
 -- every list keeps the promise, from any world and book of which the invariant holds
-pub list-keeps : {w : ℕ} {g : Geometry} {circular : Bool} (s : Bench) → Inv w g circular (s .world) (s .book) → (es : List Event) → AllClear w g circular s es
-    → AllPromised w g circular s es
+pub list-keeps : {g : Setup} (s : Bench) → Inv g (s .world) (s .book) → (es : List Event) → AllClear g s es → AllPromised g s es
 list-keeps s i [] clear = tt
-list-keeps {w} {g} {circular} s i (e ∷ es) clear =
+list-keeps {g} s i (e ∷ es) clear =
     let k = step-keeps s i e (clear .0) in
-    (k .promised, list-keeps (stepped w g circular s e) (k .keeps) es (clear .1))
+    (k .promised, list-keeps (stepped g s e) (k .keeps) es (clear .1))
 
 -- and the invariant after it
-pub run-keeps : {w : ℕ} {g : Geometry} {circular : Bool} (s : Bench) → Inv w g circular (s .world) (s .book) → (es : List Event) → AllClear w g circular s es
-    → Inv w g circular (run w g circular s es .world) (run w g circular s es .book)
-run-keeps s i [] clear = i
-run-keeps {w} {g} {circular} s i (e ∷ es) clear = run-keeps (stepped w g circular s e) (step-keeps s i e (clear .0) .keeps) es (clear .1)
-
--- an empty book has no page
-no-page : (g : Geometry) (m : ℕ) → Has g emptyBook m → ⊥
-no-page g m h = let e : none ≡ some (h .page) = h .there in let z : _≡_ {A = ℕ} 0 1 = cc in omega arith
+pub list-inv : {g : Setup} (s : Bench) → Inv g (s .world) (s .book) → (es : List Event) → AllClear g s es
+    → Inv g (steppedAll g s es .world) (steppedAll g s es .book)
+list-inv s i [] clear = i
+list-inv {g} s i (e ∷ es) clear = list-inv (stepped g s e) (step-keeps s i e (clear .0) .keeps) es (clear .1)
 
 -- where a list begins on a volume of the sizes' length, the invariant holds
-pub start-inv : {w : ℕ} {g : Geometry} (circular : Bool) (l : Log) (volume page hold : List ℕ) → Sizes w (g .p) (g .n) → g .first ≤ 16_777_215 → length volume ≡ g .n * g .p → NoHeader w g volume
-    → Inv w g circular (start l volume page hold .world) (start l volume page hold .book)
-start-inv {w} {g} circular l volume page hold z first whole none-valid = record {
-  books = books-none circular z first whole none-valid (no-page g);
-  powered = refl;
-}
+pub start-inv : (g : Setup) (l : Log) (volume page hold : List ℕ) → Sized g → g .first ≤ 16_777_215 → length volume ≡ g .n * g .p → NoHeader g volume
+    → Inv g (start l volume page hold .world) (start l volume page hold .book)
+start-inv g l volume page hold z first whole none-valid =
+    record { books = books-none g emptyBook z first whole none-valid (λ m h. no-page refl (h .there)); powered = refl }
 
 -- sizes that SHAPE refuses, or a volume of another length: every restart is refused, and nothing else ever happens
-pub record Dead (w : ℕ) (g : Geometry) (x : World) : Type 0 where
-  pub off : x .power ≡ false
-  pub unfit : (page hold : List ℕ) → shapeFits w g (length (x .volume)) (length page) (length hold) ≡ false
+record Dead (g : Setup) (x : World) : Type 0 where
+  off : x .power ≡ false
+  unfit : (page hold : ℕ) → shapeFits g (length (x .volume)) page hold ≡ false
+
+step-off : (g : Setup) (x : World) (e : Event) → x .power ≡ false → step g x e ≡ stepOff g x e
+unfolding step
+step-off g x e off = ap (λ (t : Bool). pick t (stepOn g x e) (stepOff g x e)) off
 
 -- one event, where every restart is refused
-dead-keeps : {w : ℕ} {g : Geometry} (circular : Bool) (s : Bench) → Dead w g (s .world) → (e : Event)
-    → Promised w g e (step w g circular (s .world) e .told .answer) (stepped w g circular s e) × Dead w g (stepped w g circular s e .world)
-unfolding step restart
-dead-keeps {w} {g} circular s d e =
-    subst (λ (p : Bool). Promised w g e (stepBy w g circular (s .world) e p .told .answer)
-    (record { world = stepBy w g circular (s .world) e p .world; book = note w g circular (s .book) e (stepBy w g circular (s .world) e p .told) })
-    × Dead w g (stepBy w g circular (s .world) e p .world)) (sym (d .off)) (go e)
+dead-step : {g : Setup} (s : Bench) → Dead g (s .world) → (e : Event)
+    → Promised g e (step g (s .world) e .told .answer) (stepped g s e) × Dead g (stepped g s e .world)
+unfolding log.restart
+dead-step {g} s d e = rw (step-off g (s .world) e (d .off)) (go e)
   where
-    go : (e : Event) → Promised w g e (stepOff w g circular (s .world) e .told .answer)
-        (record { world = stepOff w g circular (s .world) e .world; book = note w g circular (s .book) e (stepOff w g circular (s .world) e .told) })
-        × Dead w g (stepOff w g circular (s .world) e .world)
-    go (event.restart left wipe read-client append-client page hold) =
-        rw (d .unfit page hold) ((λ i. let z : SHAPE ≡ OK = some-ok i in absurd (omega arith)), record { off = refl; unfit = d .unfit })
-    go (event.append bytes n word) = (tt, d)
-    go (event.read room n) = (tt, d)
-    go (event.seek id) = (tt, d)
-    go (event.sync word) = (tt, d)
-    go (event.erase word) = (tt, d)
-    go event.deferred = (tt, d)
-    go (event.write-complete good left) = (tt, d)
-    go (event.erase-complete good left word) = (tt, d)
-    go (event.cut left wipe) = (tt, d)
+    Kept : Event → Step → Type 0
+    Kept e t = Promised g e (t .told .answer) (benchAfter g (s .book) e t) × Dead g (t .world)
+
+    go : (e : Event) → Kept e (stepOff g (s .world) e)
+    go (call c) = (tt, d)
+    go (completion c left) = (tt, d)
+    go (cut left) = (tt, d)
+    go (restart r) =
+        rw (d .unfit (length (r .page)) (length (r .hold)))
+        ((λ i. let z = Option·some-injective SHAPE OK i in absurd (omega arith)), record { off = refl; unfit = d .unfit })
 
 -- and every list
-dead-list : {w : ℕ} {g : Geometry} (circular : Bool) (s : Bench) → Dead w g (s .world) → (es : List Event) → AllPromised w g circular s es
-dead-list circular s d [] = tt
-dead-list {w} {g} circular s d (e ∷ es) = let k = dead-keeps circular s d e in (k .0, dead-list circular (stepped w g circular s e) (k .1) es)
+dead-list : {g : Setup} (s : Bench) → Dead g (s .world) → (es : List Event) → AllPromised g s es
+dead-list s d [] = tt
+dead-list {g} s d (e ∷ es) = let k = dead-step s d e in (k .0, dead-list (stepped g s e) (k .1) es)
 
--- Demand 3. For every width, sizes, mode, volume with no valid header, starting buffers and list of events in which no entry's length hides it: every restart that isn't refused finds exactly the
--- book's O and A, and reading on from O gives exactly the book's entries.
-pub promise : {w : ℕ} → Width w → (g : Geometry) (circular : Bool) (l : Log) (volume page hold : List ℕ) → NoHeader w g volume → (es : List Event)
-    → AllClear w g circular (start l volume page hold) es → AllPromised w g circular (start l volume page hold) es
-promise {w} v g circular l volume page hold none-valid es clear = go (sizesFit w g) refl (ℕ-discrete (length volume) (g .n * g .p))
+-- Demand 3. For every setup, volume with no valid header, starting buffers and list of events in which no entry's length hides it:
+-- every restart that isn't refused finds exactly the book's O and A, and reading on from O gives exactly the book's entries.
+pub promise : (g : Setup) (l : Log) (volume page hold : List ℕ) → NoHeader g volume → (es : List Event) → AllClear g (start l volume page hold) es
+    → AllPromised g (start l volume page hold) es
+promise g l volume page hold none-valid es clear = go (shapeFits g (length volume) (g .p) (g .p)) refl
   where
-    dead : ((page' hold' : List ℕ) → shapeFits w g (length volume) (length page') (length hold') ≡ false) → AllPromised w g circular (start l volume page hold) es
-    dead h = dead-list circular (start l volume page hold) (record { off = refl; unfit = h }) es
+    unfit : shapeFits g (length volume) (g .p) (g .p) ≡ false → (page' hold' : ℕ) (t : Bool) → shapeFits g (length volume) page' hold' ≡ t → t ≡ false
+    unfit d page' hold' false e = refl
+    unfit d page' hold' true e =
+        let z = shape-fits g (length volume) page' hold' e in
+        absurd (true≢false (sym (rw (z .buffer, z .held) at e) ∙ d))
 
-    unfit : (page' hold' : List ℕ) → (shapeFits w g (length volume) (length page') (length hold') ≡ true → ⊥) → shapeFits w g (length volume) (length page') (length hold') ≡ false
-    unfit page' hold' d = by (shapeFits w g (length volume) (length page') (length hold')) refl
-      where
-        by : (t : Bool) → shapeFits w g (length volume) (length page') (length hold') ≡ t → t ≡ false
-        by true e = absurd (d e)
-        by false e = refl
-
-    go : (t : Bool) → sizesFit w g ≡ t → Dec (length volume ≡ g .n * g .p) → AllPromised w g circular (start l volume page hold) es
-    go true e (yes whole) =
-        let z = sizes-fit w g e in
-        list-keeps (start l volume page hold) (start-inv circular l volume page hold (z .sizes) (z .first) whole none-valid) es clear
-    go true e (no d) = dead (λ page' hold'. unfit page' hold' (λ h. d (shape-fits w g (length volume) (length page') (length hold') h .whole)))
-    go false e d = dead (λ page' hold'. unfit page' hold' (λ h. let z : true ≡ false = sym (sizes-of w g (length volume) (length page') (length hold') h) ∙ e in true≢false z))
+    go : (t : Bool) → shapeFits g (length volume) (g .p) (g .p) ≡ t → AllPromised g (start l volume page hold) es
+    go true e =
+        let z = shape-fits g (length volume) (g .p) (g .p) e in
+        list-keeps (start l volume page hold) (start-inv g l volume page hold (z .sizes) (z .first) (z .whole) none-valid) es clear
+    go false d = dead-list (start l volume page hold) (record { off = refl; unfit = λ page' hold'. unfit d page' hold' _ refl }) es
 
 -- a further restart after the list
-pub further : {w : ℕ} → Width w → (g : Geometry) (circular : Bool) (l : Log) (volume page hold : List ℕ) → NoHeader w g volume → (es : List Event)
-    → AllClear w g circular (start l volume page hold) es
-    → (left : Left) (wipe : Erased) (read-client append-client : Bool) (page' hold' : List ℕ)
-    → Promised w g (event.restart left wipe read-client append-client page' hold')
-    (step w g circular (run w g circular (start l volume page hold) es .world) (event.restart left wipe read-client append-client page' hold') .told .answer)
-    (stepped w g circular (run w g circular (start l volume page hold) es) (event.restart left wipe read-client append-client page' hold'))
-further {w} v g circular l volume page hold none-valid es clear left wipe read-client append-client page' hold' =
-    last-promised (start l volume page hold) es
-    (promise v g circular l volume page hold none-valid (es ++ (event.restart left wipe read-client append-client page' hold' ∷ [])) (more-clear (start l volume page hold) es clear))
+pub further : (g : Setup) (l : Log) (volume page hold : List ℕ) → NoHeader g volume → (es : List Event) → AllClear g (start l volume page hold) es
+    → (r : Restart) → let s : Bench = steppedAll g (start l volume page hold) es in
+    Promised g (restart r) (step g (s .world) (restart r) .told .answer) (stepped g s (restart r))
+further g l volume page hold none-valid es clear r =
+    last (start l volume page hold) es (promise g l volume page hold none-valid (es ++ (restart r ∷ [])) (more-clear (start l volume page hold) es clear))
   where
-    last-promised : (s : Bench) (es : List Event) → AllPromised w g circular s (es ++ (event.restart left wipe read-client append-client page' hold' ∷ []))
-        → Promised w g (event.restart left wipe read-client append-client page' hold')
-        (step w g circular (run w g circular s es .world) (event.restart left wipe read-client append-client page' hold') .told .answer)
-        (stepped w g circular (run w g circular s es) (event.restart left wipe read-client append-client page' hold'))
-    last-promised s [] h = h .0
-    last-promised s (e ∷ es) h = last-promised (stepped w g circular s e) es (h .1)
+    last : (s : Bench) (es : List Event) → AllPromised g s (es ++ (restart r ∷ [])) → let s' : Bench = steppedAll g s es in
+        Promised g (restart r) (step g (s' .world) (restart r) .told .answer) (stepped g s' (restart r))
+    last s [] h = h .0
+    last s (e ∷ es) h = last (stepped g s e) es (h .1)
 
-    more-clear : (s : Bench) (es : List Event) → AllClear w g circular s es → AllClear w g circular s (es ++ (event.restart left wipe read-client append-client page' hold' ∷ []))
+    more-clear : (s : Bench) (es : List Event) → AllClear g s es → AllClear g s (es ++ (restart r ∷ []))
     more-clear s [] c = (tt, tt)
-    more-clear s (e ∷ es) c = (c .0, more-clear (stepped w g circular s e) es (c .1))
+    more-clear s (e ∷ es) c = (c .0, more-clear (stepped g s e) es (c .1))

@@ -1,26 +1,38 @@
 // Runs lists of events, read from standard input as bytes. Before each stand the width of a word (one byte) and how many bytes the list has (four bytes, the
 // lowest first). Each runs on a fresh volume of 4 pages of 8 words. A further restart then comes in the middle of whatever is under way, which leaves the old
-// page. Writes for each the oldest ID and the append ID that it found, how many entries were read, and their bytes with each length before them.
+// page. Writes for each the oldest ID and the append ID that it found, how many entries were read, whether these are all or the front of them, and their bytes
+// with each length before them. Input of more than 4,096 bytes is refused with a line.
 ghost use Prim.Native.Nat.{_≤_};
 ghost use lib.ListN.{length};
-use flash::operation::Erasure;
-use flash::operation::Written;
+use bench_flash::operation::Left;
+use bench_run::run;
+use bench_run::run::Found;
+use bench_run::run::Ran;
+use engine_state::state::Geometry;
 use libc::STDIN_FILENO;
-use log::state::Geometry;
 use page::word;
-use running::run;
-use running::run::Found;
-use running::run::Ran;
-use script::text;
-use script::trace;
+use tool_script::text;
+use tool_script::trace;
 
 // The bytes before each list.
 const HEAD_SIZE: usize = 5;
 
+// The most bytes that all lists together may have.
+const LIMIT: usize = 4096;
+
+// Whether the entries are all that there are.
+fn reached(whole: bool, line: &mut [u8], at: usize) -> usize {
+    if whole {
+        return trace::put(line, at, b" all");
+    }
+    trace::put(line, at, b" front")
+}
+
 fn found(found: Found, entries: &[u8], line: &mut [u8]) {
     let start = trace::pair(line, b"found", found.oldest.0, found.append.0);
     let middle = trace::number(line, start, found.count);
-    let stop = trace::bytes(line, middle, text::part(entries, 0, found.used));
+    let last = reached(found.whole, line, middle);
+    let stop = trace::bytes(line, last, text::part(entries, 0, found.used));
     trace::end(line, stop);
 }
 
@@ -56,8 +68,7 @@ fn on_volume(
         geometry,
         true,
         bytes,
-        Written::Old,
-        Erasure::Old,
+        Left::Old,
         true,
         volume,
         page,
@@ -136,8 +147,18 @@ fn lists(bytes: &[u8]) {
     }
 }
 
+fn too_long() {
+    let mut line = [0u8; 64];
+    let stop = trace::put(&mut line, 0, b"the lists have more than 4096 bytes");
+    trace::end(&mut line, stop);
+}
+
 fn main() {
-    let mut bytes = [0u8; 4096];
+    let mut bytes = [0u8; 4097];
     let n = io::read_full(STDIN_FILENO, &mut bytes);
+    if LIMIT < n {
+        too_long();
+        return;
+    }
     lists(text::part(&bytes, 0, n));
 }

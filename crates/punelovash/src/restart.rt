@@ -1,8 +1,9 @@
 // Restart, on a block of the board with 4-byte words.
-ghost use mathlib.Core.Bool.{not};
-ghost use lib.Dec.{eqb};
-ghost use Rattle.capi.specs.Call.{RestartsBlock};
-use capi::restart;
+ghost use mathlib.Core.Path.{_≡_};
+ghost use Rattle.engine_call.specs.Outcome.{lend};
+ghost use Rattle.punelovash_block.specs.Block.{isSet, setupFrom};
+ghost use Rattle.punelovash_block.specs.Call.{blockDone, restartBlock};
+use punelovash_block::restart;
 
 // Restarts the log on a volume. Flags are 0 or not.
 #[no_mangle]
@@ -18,7 +19,9 @@ pub extern "C" fn punelovash_restart(
     page: &mut [u8],
     hold: &[u8],
 ) -> u32
-    ensures { λ r. ⌜ RestartsBlock 4 (record { p = «page_size»; n = «page_count»; first = «first_page» }) (not (eqb circular 0)) (not (eqb «read_client» 0)) (not (eqb «append_client» 0)) (now (block .entry)) (now (block .exit)) (now (volume .entry)) (now (page .entry)) (now (page .exit)) (now (hold .entry)) r ⌝ }
+    ensures { λ r. ⌜ blockDone r (now (block .exit)) (now (page .exit)) (now (hold .entry))
+        ≡ restartBlock 4 (now (block .entry)) (setupFrom 4 «page_size» «page_count» «first_page» (isSet circular))
+        (isSet «read_client») (isSet «append_client») (lend (now (volume .entry)) (now (page .entry)) (now (hold .entry))) ⌝ }
 {
     restart::restart(
         4,

@@ -1,8 +1,10 @@
 // The survey of a volume with 4-byte words.
-ghost use Rattle.capi.specs.Call.{SurveysVolume};
-use log::state::Geometry;
-use recovery::survey;
-use recovery::survey::Surveyed;
+ghost use mathlib.Core.Bool.{Bool};
+ghost use Rattle.punelovash_block.specs.Block.{setupFrom};
+ghost use Rattle.punelovash_block.specs.Call.{SurveysVolume};
+use engine_restart::survey;
+use engine_restart::survey::Surveyed;
+use engine_state::state::Geometry;
 
 // Writes each valid page ID once to `ids`, and their count to `count`.
 #[no_mangle]
@@ -14,7 +16,8 @@ pub extern "C" fn punelovash_survey(
     ids: &mut [u32],
     count: &mut usize,
 ) -> u32
-    ensures { λ r. ⌜ SurveysVolume 4 (record { p = «page_size»; n = «page_count»; first = «first_page» }) (now (volume .entry)) (now (ids .entry)) (now (ids .exit)) (now (count .entry)) (now (count .exit)) r ⌝ }
+    ensures { λ r. ⌜ ((circular : Bool) → SurveysVolume (setupFrom 4 «page_size» «page_count» «first_page» circular) (now (volume .entry))
+        (now (ids .entry)) (now (ids .exit)) (now (count .entry)) (now (count .exit)) r) ⌝ }
 {
     let geometry = Geometry {
         page_size: page_size as usize,

@@ -1,19 +1,11 @@
 // The calls, on a block of the board with 8-byte words. Each is the call of `capi` at that width.
 ghost use mathlib.Core.Path.{_≡_};
-ghost use mathlib.Core.Bool.{not};
-ghost use lib.Dec.{eqb};
-ghost use Rattle.log.specs.Log.{Log};
-ghost use Rattle.call.specs.Outcome.{Outcome};
-ghost use Rattle.writing.specs.Append.{Appends};
-ghost use Rattle.writing.specs.Sync.{Syncs};
-ghost use Rattle.completing.specs.WriteComplete.{WriteCompletes};
-ghost use Rattle.reading.specs.Read.{Reads};
-ghost use Rattle.reading.specs.Seek as seeking;
-ghost use Rattle.reading.specs.Deferred as deferring;
-ghost use Rattle.erasing.specs.Erase.{eraseCall, EraseCompletes};
-ghost use Rattle.capi.specs.Block.{wordFrom};
-ghost use Rattle.capi.specs.Call.{volumeLength, Calls};
-use capi::calls;
+ghost use lib.ListN as lists;
+ghost use Rattle.engine_call.specs.Outcome.{Lent, lend};
+ghost use Rattle.engine_call.specs.Call as c;
+ghost use Rattle.punelovash_block.specs.Block.{isSet, wordFrom, setupAt};
+ghost use Rattle.punelovash_block.specs.Call.{blockDone, callBlock, completeBlock, readBlock, AsIfLent};
+use punelovash_block::calls;
 
 // Appends the first `length` bytes of `data`.
 #[no_mangle]
@@ -26,7 +18,9 @@ pub extern "C" fn punelovash8_append(
     length: usize,
     word: u8,
 ) -> u32
-    ensures { λ r. ⌜ Calls 8 (now (block .entry)) (now (block .exit)) r ((now (page .exit) ≡ now (page .entry)) × (now (hold .exit) ≡ now (hold .entry))) (λ (l : Log) (o : Outcome). Appends 8 l (now (volume .entry)) (now (page .entry)) (now (hold .entry)) (now («data» .entry)) length (wordFrom word) o (now (page .exit)) (now (hold .exit))) ⌝ }
+    ensures { λ r. ⌜ blockDone r (now (block .exit)) (now (page .exit)) (now (hold .exit))
+        ≡ callBlock 8 (now (block .entry)) (lend (now (volume .entry)) (now (page .entry)) (now (hold .entry)))
+        (c.append (now («data» .entry)) length (wordFrom word)) ⌝ }
 {
     calls::append(8, block, volume, page, hold, data, length, word)
 }
@@ -41,7 +35,9 @@ pub extern "C" fn punelovash8_read<'a>(
     buffer: &mut [u8],
     length: usize,
 ) -> u32
-    ensures { λ r. ⌜ Calls 8 (now (block .entry)) (now (block .exit)) r (now (buffer .exit) ≡ now (buffer .entry)) (λ (l : Log) (o : Outcome). Reads 8 l (now (volume .entry)) (now (page .entry)) (now (page .entry)) (now (buffer .entry)) length o (now (buffer .exit))) ⌝ }
+    ensures { λ r. ⌜ (let x = lend (now (volume .entry)) (now (page .entry)) (now (page .entry)) in
+        (blockDone r (now (block .exit)) (x .page) (x .hold) ≡ callBlock 8 (now (block .entry)) x (c.read (lists.length (now (buffer .entry))) length))
+        × (now (buffer .exit) ≡ readBlock 8 (now (block .entry)) x (now (buffer .entry)) length)) ⌝ }
 {
     calls::read(8, block, volume, page, buffer, length)
 }
@@ -49,7 +45,8 @@ pub extern "C" fn punelovash8_read<'a>(
 // The next entry to read is the one at `entry_id`. Only sizes are looked at, so that nothing but the block is lent.
 #[no_mangle]
 pub extern "C" fn punelovash8_seek(block: &mut [u8], entry_id: usize) -> u32
-    ensures { λ r. ⌜ Calls 8 (now (block .entry)) (now (block .exit)) r (Unit {0}) (λ (l : Log) (o : Outcome). o ≡ seeking.seek 8 l (volumeLength l) (l .geometry .p) (l .geometry .p) «entry_id») ⌝ }
+    ensures { λ r. ⌜ ((x : Lent) → AsIfLent (setupAt 8 (now (block .entry))) x
+        → blockDone r (now (block .exit)) (x .page) (x .hold) ≡ callBlock 8 (now (block .entry)) x (c.seek «entry_id»)) ⌝ }
 {
     calls::seek(8, block, entry_id)
 }
@@ -63,7 +60,8 @@ pub extern "C" fn punelovash8_sync(
     hold: &[u8],
     word: u8,
 ) -> u32
-    ensures { λ r. ⌜ Calls 8 (now (block .entry)) (now (block .exit)) r (now (page .exit) ≡ now (page .entry)) (λ (l : Log) (o : Outcome). Syncs 8 l (now (volume .entry)) (now (page .entry)) (now (hold .entry)) (wordFrom word) o (now (page .exit))) ⌝ }
+    ensures { λ r. ⌜ blockDone r (now (block .exit)) (now (page .exit)) (now (hold .entry))
+        ≡ callBlock 8 (now (block .entry)) (lend (now (volume .entry)) (now (page .entry)) (now (hold .entry))) (c.sync (wordFrom word)) ⌝ }
 {
     calls::sync(8, block, volume, page, hold, word)
 }
@@ -71,7 +69,8 @@ pub extern "C" fn punelovash8_sync(
 // Erases the log. Only sizes are looked at, so that nothing but the block is lent.
 #[no_mangle]
 pub extern "C" fn punelovash8_erase(block: &mut [u8], word: u8) -> u32
-    ensures { λ r. ⌜ Calls 8 (now (block .entry)) (now (block .exit)) r (Unit {0}) (λ (l : Log) (o : Outcome). o ≡ eraseCall 8 l (volumeLength l) (l .geometry .p) (l .geometry .p) (wordFrom word)) ⌝ }
+    ensures { λ r. ⌜ ((x : Lent) → AsIfLent (setupAt 8 (now (block .entry))) x
+        → blockDone r (now (block .exit)) (x .page) (x .hold) ≡ callBlock 8 (now (block .entry)) x (c.erase (wordFrom word))) ⌝ }
 {
     calls::erase(8, block, word)
 }
@@ -85,7 +84,8 @@ pub extern "C" fn punelovash8_write_complete(
     hold: &[u8],
     good: u8,
 ) -> u32
-    ensures { λ r. ⌜ Calls 8 (now (block .entry)) (now (block .exit)) r (now (page .exit) ≡ now (page .entry)) (λ (l : Log) (o : Outcome). WriteCompletes 8 l (now (volume .entry)) (now (page .entry)) (now (hold .entry)) (not (eqb good 0)) o (now (page .exit))) ⌝ }
+    ensures { λ r. ⌜ blockDone r (now (block .exit)) (now (page .exit)) (now (hold .entry))
+        ≡ completeBlock 8 (now (block .entry)) (lend (now (volume .entry)) (now (page .entry)) (now (hold .entry))) (c.write-ended (isSet good)) ⌝ }
 {
     calls::write_complete(8, block, volume, page, hold, good)
 }
@@ -100,7 +100,9 @@ pub extern "C" fn punelovash8_erase_complete(
     good: u8,
     word: u8,
 ) -> u32
-    ensures { λ r. ⌜ Calls 8 (now (block .entry)) (now (block .exit)) r (now (page .exit) ≡ now (page .entry)) (λ (l : Log) (o : Outcome). EraseCompletes 8 l (now (volume .entry)) (now (page .entry)) (now (hold .entry)) (not (eqb good 0)) (wordFrom word) o (now (page .exit))) ⌝ }
+    ensures { λ r. ⌜ blockDone r (now (block .exit)) (now (page .exit)) (now (hold .entry))
+        ≡ completeBlock 8 (now (block .entry)) (lend (now (volume .entry)) (now (page .entry)) (now (hold .entry)))
+        (c.erase-ended (isSet good) (wordFrom word)) ⌝ }
 {
     calls::erase_complete(8, block, volume, page, hold, good, word)
 }
@@ -108,7 +110,8 @@ pub extern "C" fn punelovash8_erase_complete(
 // The deferred call, which reports a read or a seek. Only sizes are looked at, so that nothing but the block is lent.
 #[no_mangle]
 pub extern "C" fn punelovash8_deferred_call(block: &mut [u8]) -> u32
-    ensures { λ r. ⌜ Calls 8 (now (block .entry)) (now (block .exit)) r (Unit {0}) (λ (l : Log) (o : Outcome). o ≡ deferring.deferred 8 l (volumeLength l) (l .geometry .p) (l .geometry .p)) ⌝ }
+    ensures { λ r. ⌜ ((x : Lent) → AsIfLent (setupAt 8 (now (block .entry))) x
+        → blockDone r (now (block .exit)) (x .page) (x .hold) ≡ callBlock 8 (now (block .entry)) x c.deferred) ⌝ }
 {
     calls::deferred_call(8, block)
 }

@@ -1,7 +1,7 @@
 // The getters, on a block of the board with 8-byte words. A block that holds no log has 0 for each.
 ghost use mathlib.Core.Path.{_≡_};
-ghost use Rattle.capi.specs.Get.{oldestOf, appendOf, readOf, sizeOf};
-use capi::get;
+ghost use Rattle.punelovash_block.specs.Get.{oldestOf, appendOf, readOf, sizeOf};
+use punelovash_block::get;
 
 // The ID of the oldest entry.
 #[no_mangle]

@@ -4,103 +4,144 @@ use crate::other;
 use crate::show;
 use crate::world;
 use crate::world::World;
-use events::event::EraseCall;
-use events::event::ReadCall;
-use events::event::WriteCall;
-use script::parse::Line;
-use script::text;
-use script::trace;
+use bench_flash::event::Call;
+use bench_flash::event::Completion;
+use bench_flash::operation::Left;
+use bench_step::step;
+use bench_step::world::Step;
+use tool_script::parse::Line;
+use tool_script::text;
+use tool_script::trace;
 
+fn step(
+    world: World,
+    call: Call,
+    volume: &[u8],
+    page: &mut [u8],
+    hold: &mut [u8],
+    bytes: &[u8],
+    buffer: &mut [u8],
+) -> Step {
+    let setup = world.setup;
+    let bench = world.bench;
+    step::called(setup, bench, call, volume, page, hold, bytes, buffer)
+}
+
+// A call that gets no buffer to fill.
 fn write(
     name: &[u8],
     world: World,
-    call: WriteCall,
-    room: usize,
-    volume: &mut [u8],
+    call: Call,
+    volume: &[u8],
     page: &mut [u8],
     hold: &mut [u8],
-    client: &[u8],
+    bytes: &[u8],
     out: &mut [u8],
 ) -> World {
-    let buffer = text::part(client, 0, room);
-    let step = forced::write(world, call, volume, page, hold, buffer);
-    show::finish(name, world, step, page, hold, out)
-}
-
-fn erase(
-    name: &[u8],
-    world: World,
-    call: EraseCall,
-    volume: &mut [u8],
-    page: &mut [u8],
-    hold: &[u8],
-    out: &mut [u8],
-) -> World {
-    let step = forced::erase(world, call, volume, page, hold);
-    show::finish(name, world, step, page, hold, out)
-}
-
-fn read<'a>(
-    name: &[u8],
-    world: World,
-    call: ReadCall,
-    volume: &'a [u8],
-    page: &'a [u8],
-    hold: &[u8],
-    client: &mut [u8],
-    out: &mut [u8],
-) -> World {
-    let bench = world.bench;
-    let log = bench.log;
-    let geometry = log.geometry;
-    let step = stepping::reads::run(
-        world.width,
-        geometry,
-        bench,
+    let mut none = [0u8; 1];
+    let step = step(
+        world,
         call,
         volume,
         page,
         hold,
-        client,
+        bytes,
+        text::front(&mut none, 0),
     );
+    show::finish(name, world, step, page, hold, out)
+}
+
+// A read's trace ends in the client's buffer.
+fn show_read(
+    name: &[u8],
+    world: World,
+    step: Step,
+    page: &[u8],
+    hold: &[u8],
+    buffer: &[u8],
+    out: &mut [u8],
+) -> World {
     let middle = show::call(name, step, page, hold, out);
-    let stop = client_bytes(call, client, middle, out);
+    let stop = trace::bytes(out, middle, buffer);
     trace::end(out, stop);
     let next = step.world;
     world::after(world, next, world.hostile)
 }
 
-// The same on the part of the client's buffer that is lent.
-fn read_part<'a>(
+fn read(
     name: &[u8],
     world: World,
-    call: ReadCall,
+    call: Call,
+    volume: &[u8],
+    page: &mut [u8],
+    hold: &mut [u8],
+    buffer: &mut [u8],
+    out: &mut [u8],
+) -> World {
+    let none = [0u8; 1];
+    let step = step(
+        world,
+        call,
+        volume,
+        page,
+        hold,
+        text::part(&none, 0, 0),
+        buffer,
+    );
+    show_read(name, world, step, page, hold, buffer, out)
+}
+
+// Whether a call fills the client's buffer.
+fn fills(call: Call) -> bool {
+    match call {
+        Call::Read(length) => true,
+        Call::Append(length, word) => false,
+        Call::Sync(word) => false,
+        Call::Seek(id) => false,
+        Call::Deferred => false,
+        Call::Erase(word) => false,
+    }
+}
+
+// A call, on the part of the client's buffer that is lent.
+fn call(
+    name: &[u8],
+    world: World,
+    call: Call,
     room: usize,
-    volume: &'a [u8],
-    page: &'a [u8],
-    hold: &[u8],
+    volume: &[u8],
+    page: &mut [u8],
+    hold: &mut [u8],
     client: &mut [u8],
     out: &mut [u8],
 ) -> World {
-    let buffer = text::front(client, room);
-    read(name, world, call, volume, page, hold, buffer, out)
+    if fills(call) {
+        let buffer = text::front(client, room);
+        return read(name, world, call, volume, page, hold, buffer, out);
+    }
+    let bytes = text::part(client, 0, room);
+    write(name, world, call, volume, page, hold, bytes, out)
 }
 
-// A read's trace ends in the client's buffer.
-fn client_bytes(call: ReadCall, client: &[u8], at: usize, out: &mut [u8]) -> usize {
-    match call {
-        ReadCall::Read(length) => trace::bytes(out, at, client),
-        ReadCall::Seek(id) => at,
-        ReadCall::Deferred => at,
-    }
+fn complete(
+    name: &[u8],
+    world: World,
+    completion: Completion,
+    left: Left,
+    volume: &mut [u8],
+    page: &mut [u8],
+    hold: &[u8],
+    out: &mut [u8],
+) -> World {
+    let step = forced::complete(world, completion, left, volume, page, hold);
+    show::finish(name, world, step, page, hold, out)
 }
 
 // Whether a line is a call that needs the power.
 fn needs_power(line: Line) -> bool {
     match line {
-        Line::Write(call, room) => true,
-        Line::Read(call, room) => true,
-        Line::Erase(call) => true,
+        Line::Call(call, room) => true,
+        Line::Complete(completion, left) => true,
         Line::Other(other) => false,
         Line::Bad(fault) => false,
     }
@@ -117,13 +158,10 @@ fn delivered(
     out: &mut [u8],
 ) -> World {
     match line {
-        Line::Write(call, room) => {
-            write(name, world, call, room, volume, page, hold, client, out)
+        Line::Call(made, room) => call(name, world, made, room, volume, page, hold, client, out),
+        Line::Complete(completion, left) => {
+            complete(name, world, completion, left, volume, page, hold, out)
         }
-        Line::Read(call, room) => {
-            read_part(name, world, call, room, volume, page, hold, client, out)
-        }
-        Line::Erase(call) => erase(name, world, call, volume, page, hold, out),
         Line::Other(other) => other::run(world, other, volume, page, out),
         Line::Bad(fault) => world::faulty(world, fault),
     }

@@ -10,11 +10,11 @@ mod world;
 ghost use mathlib.Core.Path.{_≡_};
 ghost use lib.ListN.{length};
 use libc::STDIN_FILENO;
-use script::parse;
-use script::parse::Fault;
-use script::parse::Line;
-use script::text;
-use script::trace;
+use tool_script::parse;
+use tool_script::parse::Fault;
+use tool_script::parse::Line;
+use tool_script::text;
+use tool_script::trace;
 use world::Stage;
 use world::World;
 
@@ -134,13 +134,19 @@ fn fault_number(fault: Fault) -> usize {
     }
 }
 
-// Says what is wrong with a line, in words.
-fn complain(fault: Fault, number: usize, out: &mut [u8]) {
+// Says in words what is wrong with the last line; nothing where it was right.
+fn complain(world: World, number: usize, out: &mut [u8]) {
+    if !world::is_faulty(world) {
+        return;
+    }
+    let fault = world.fault;
     let start = trace::put(out, 0, b"line");
     let middle = trace::number(out, start, number);
     let colon = trace::put(out, middle, b": ");
     let list =
-        b"no line begins with this word;this line is out of its place;this line has too many words;a number is missing or too large;bytes are missing, too many or not hexadecimal;a word is missing or may not stand there;the volume has more than 65,536 bytes;the script has more than 4 MiB";
+        b"no line begins with this word;this line is out of its place;this line has too many words;\
+a number is missing or too large;bytes are missing, too many or not hexadecimal;a word is missing or may not stand there;\
+the volume has more than 65,536 bytes;the script has more than 4 MiB";
     let stop = trace::put(out, colon, text::item(list, b';', fault_number(fault)));
     trace::end(out, stop);
 }
@@ -189,9 +195,8 @@ fn replay(
         let stop = text::find(script, at, b'\n');
         number += 1;
         world = next(world, script, at, stop, volume, page, hold, client, out);
-        let fault = world.fault;
-        if fault_number(fault) < 8 {
-            complain(fault, number, out);
+        complain(world, number, out);
+        if world::is_faulty(world) {
             return;
         }
         at = text::after(stop, script.len());

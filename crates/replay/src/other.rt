@@ -3,18 +3,18 @@ use crate::power;
 use crate::show;
 use crate::world;
 use crate::world::World;
-use flash::operation::Operation;
-use log::get;
-use log::get::Capacity;
-use log::state::Log;
-use log::state::State;
+use bench_flash::operation::Operation;
+use bench_step::world as bench_world;
+use engine_restart::survey::Surveyed;
+use engine_state::get;
+use engine_state::get::Capacity;
+use engine_state::state::Log;
+use engine_state::state::State;
 use page::id::EntryID;
-use recovery::survey::Surveyed;
-use script::parse::Fault;
-use script::parse::Other;
-use script::text;
-use script::trace;
-use stepping::world as bench;
+use tool_script::parse::Fault;
+use tool_script::parse::Other;
+use tool_script::text;
+use tool_script::trace;
 
 // The survey's answer and count.
 fn survey_answer(answer: Surveyed) -> usize {
@@ -35,7 +35,7 @@ fn survey_count(answer: Surveyed) -> usize {
 
 fn survey_into(width: usize, log: Log, volume: &[u8], ids: &mut [u64], out: &mut [u8]) {
     let geometry = log.geometry;
-    let answer = script::survey::survey(width, geometry, volume, ids);
+    let answer = tool_script::survey::survey(width, geometry, volume, ids);
     let start = trace::pair(out, b"survey", survey_answer(answer), survey_count(answer));
     let stop = trace::words(out, start, ids);
     trace::end(out, stop);
@@ -44,7 +44,7 @@ fn survey_into(width: usize, log: Log, volume: &[u8], ids: &mut [u64], out: &mut
 fn survey(world: World, count: usize, volume: &[u8], out: &mut [u8]) -> World {
     let mut ids = [18446744073709551615u64; 4096];
     survey_into(
-        world.width,
+        world.setup.width,
         world.bench.log,
         volume,
         text::front_u64(&mut ids, count),
@@ -59,7 +59,7 @@ fn getters(world: World, out: &mut [u8]) -> World {
         return show::not_delivered(b"get", world, out);
     }
     let log = bench.log;
-    let size = match get::get_size(world.width, log) {
+    let size = match get::get_size(world.setup.width, log) {
         Capacity::Bytes(bytes) => bytes,
         Capacity::Shape => 0,
     };
@@ -91,7 +91,7 @@ fn put(
         return world::faulty(world, Fault::Place);
     }
     let log = bench.log;
-    let next = call::outcome::with(
+    let next = engine_call::outcome::with(
         log,
         state,
         EntryID(oldest),
@@ -99,7 +99,7 @@ fn put(
         EntryID(append),
         length,
     );
-    let put = bench::World {
+    let put = bench_world::World {
         power: true,
         log: next,
         operation: Operation::Nothing,

@@ -1,11 +1,11 @@
 // The trace of a call, and the world after it.
 use crate::world;
 use crate::world::World;
-use call::outcome::Outcome;
-use log::answer::Answer;
-use script::trace;
-use stepping::world::Heard;
-use stepping::world::Step;
+use bench_step::world::Delivery;
+use bench_step::world::Step;
+use engine_call::outcome::Outcome;
+use engine_state::answer::Answer;
+use tool_script::trace;
 
 // What a delivered call gave.
 fn given(step: Step, answer: Answer) -> Outcome {
@@ -33,10 +33,10 @@ fn outcome(out: &mut [u8], start: usize, given: Outcome, page: &[u8], hold: &[u8
 pub(crate) fn call(name: &[u8], step: Step, page: &[u8], hold: &[u8], out: &mut [u8]) -> usize {
     let start = trace::put(out, 0, name);
     let told = step.told;
-    let heard = told.answer;
-    match heard {
-        Heard::Nothing => trace::put(out, start, b" not delivered"),
-        Heard::Answer(answer) => outcome(out, start, given(step, answer), page, hold),
+    let answered = told.answer;
+    match answered {
+        Delivery::Nothing => trace::put(out, start, b" not delivered"),
+        Delivery::Answer(answer) => outcome(out, start, given(step, answer), page, hold),
     }
 }
 

@@ -3,15 +3,15 @@ use crate::power;
 use crate::power::Ending;
 use crate::world;
 use crate::world::World;
-use log::check;
-use log::state::Geometry;
-use log::state::Log;
-use script::parse::Fault;
-use script::text;
-use script::text::Number;
-use script::trace;
-use stepping::world::Ended;
-use stepping::world::Step;
+use bench_step::world::Setup;
+use bench_step::world::Step;
+use engine_state::check;
+use engine_state::state::Geometry;
+use engine_state::state::Log;
+use tool_script::parse::Fault;
+use tool_script::text;
+use tool_script::text::Number;
+use tool_script::trace;
 
 // The buffers' length before the first restart: P where SHAPE admits P, else none.
 fn buffer_size(width: usize, page_size: usize) -> usize {
@@ -79,11 +79,17 @@ pub(crate) fn sizes(line: &[u8], world: World) -> World {
     let Number::Value(width) = width_of(line) else {
         return world::faulty(world, Fault::Word);
     };
-    world::sized(
+    let geometry = Geometry {
+        page_size,
+        page_count,
+        first_page,
+    };
+    let setup = Setup {
         width,
-        world::blank_log(page_size, page_count, first_page, circular),
-        buffer_size(width, page_size),
-    )
+        geometry,
+        circular,
+    };
+    world::sized(setup, buffer_size(width, page_size))
 }
 
 // L, where a volume of this program may be so long.
@@ -214,21 +220,9 @@ fn run(
     hold: &[u8],
     out: &mut [u8],
 ) -> World {
-    let bench = world.bench;
-    let log = bench.log;
-    let geometry = log.geometry;
-    let step = stepping::power::restart(
-        world.width,
-        geometry,
-        log.circular,
-        bench,
-        Ended::Nothing,
-        read,
-        append,
-        volume,
-        page,
-        hold,
-    );
+    let setup = world.setup;
+    let off = bench_step::world::undelivered(world.bench);
+    let step = bench_step::power::restart(setup, off, read, append, volume, page, hold);
     finish(world, step, page, hold, out)
 }
 
@@ -300,10 +294,9 @@ fn cut(line: &[u8], world: World, volume: &mut [u8], page: &[u8]) -> World {
     let operation = bench.operation;
     match power::leaves_by(operation, left_number(line)) {
         Ending::Bad => world::faulty(world, Fault::Word),
-        Ending::Both(written, wiped) => power::off(
+        Ending::Leaves(leaves) => power::off(
             world,
-            written,
-            wiped,
+            leaves,
             text::front(volume, world.volume),
             text::part(page, 0, world.page),
         ),

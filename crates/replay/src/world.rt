@@ -1,7 +1,8 @@
 // What a replay holds between two lines: the bench's world, the line that is due, and how many bytes of each buffer are in use.
-use log::state::Geometry;
-use script::parse::Fault;
-use stepping::world as bench;
+use bench_step::world as bench_world;
+use bench_step::world::Setup;
+use engine_state::state::Geometry;
+use tool_script::parse::Fault;
 
 // The line that is due.
 pub(crate) enum Stage {
@@ -12,10 +13,9 @@ pub(crate) enum Stage {
 }
 
 pub(crate) struct World {
-    // How many bytes the board's words have.
-    pub width: usize,
+    pub setup: Setup,
     pub stage: Stage,
-    pub bench: bench::World,
+    pub bench: bench_world::World,
     // A state was put in place of the log's: every completion is delivered.
     pub hostile: bool,
     pub volume: usize,
@@ -25,40 +25,41 @@ pub(crate) struct World {
     pub fault: Fault,
 }
 
-// A log of these sizes, and the power off.
-pub(crate) fn blank_log(
-    page_size: usize,
-    page_count: usize,
-    first_page: usize,
-    circular: bool,
-) -> bench::World {
-    let geometry = Geometry {
-        page_size,
-        page_count,
-        first_page,
-    };
-    bench::begin(geometry, circular)
-}
-
-pub(crate) fn empty() -> World {
+fn at(stage: Stage, setup: Setup, buffer: usize) -> World {
     World {
-        width: 4,
-        stage: Stage::Sizes,
-        bench: blank_log(0, 0, 0, false),
+        setup,
+        stage,
+        bench: bench_world::begin(setup),
         hostile: false,
         volume: 0,
-        page: 0,
-        hold: 0,
+        page: buffer,
+        hold: buffer,
         fault: Fault::Nothing,
     }
 }
 
+// Before the first line.
+pub(crate) fn empty() -> World {
+    let geometry = Geometry {
+        page_size: 0,
+        page_count: 0,
+        first_page: 0,
+    };
+    let setup = Setup {
+        width: 4,
+        geometry,
+        circular: false,
+    };
+    at(Stage::Sizes, setup, 0)
+}
+
 // The world after a line that is wrong.
 pub(crate) fn faulty(world: World, fault: Fault) -> World {
+    let setup = world.setup;
     let stage = world.stage;
     let bench = world.bench;
     World {
-        width: world.width,
+        setup,
         stage,
         bench,
         hostile: world.hostile,
@@ -85,24 +86,16 @@ pub(crate) fn is_faulty(world: World) -> bool {
 }
 
 // The world after `sizes`: page and hold buffers of so many zeros.
-pub(crate) fn sized(width: usize, bench: bench::World, buffer: usize) -> World {
-    World {
-        width,
-        stage: Stage::Volume,
-        bench,
-        hostile: false,
-        volume: 0,
-        page: buffer,
-        hold: buffer,
-        fault: Fault::Nothing,
-    }
+pub(crate) fn sized(setup: Setup, buffer: usize) -> World {
+    at(Stage::Volume, setup, buffer)
 }
 
 // The world after `volume`.
 pub(crate) fn with_volume(world: World, volume: usize) -> World {
+    let setup = world.setup;
     let bench = world.bench;
     World {
-        width: world.width,
+        setup,
         stage: Stage::Restart,
         bench,
         hostile: false,
@@ -114,9 +107,15 @@ pub(crate) fn with_volume(world: World, volume: usize) -> World {
 }
 
 // The world after a restart with buffers of these lengths.
-pub(crate) fn restarted(world: World, bench: bench::World, page: usize, hold: usize) -> World {
+pub(crate) fn restarted(
+    world: World,
+    bench: bench_world::World,
+    page: usize,
+    hold: usize,
+) -> World {
+    let setup = world.setup;
     World {
-        width: world.width,
+        setup,
         stage: Stage::Calls,
         bench,
         hostile: false,
@@ -128,9 +127,10 @@ pub(crate) fn restarted(world: World, bench: bench::World, page: usize, hold: us
 }
 
 // The world after a call, or after a state was put in place.
-pub(crate) fn after(world: World, bench: bench::World, hostile: bool) -> World {
+pub(crate) fn after(world: World, bench: bench_world::World, hostile: bool) -> World {
+    let setup = world.setup;
     World {
-        width: world.width,
+        setup,
         stage: Stage::Calls,
         bench,
         hostile,

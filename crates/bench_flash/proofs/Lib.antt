@@ -1,0 +1,2 @@
+-- The laws of the bench flash.
+pub mod Slots

@@ -1,0 +1,3 @@
+// The bench flash, and the events of a list.
+pub mod event;
+pub mod operation;

@@ -1,3 +1,0 @@
--- Lists of calls on a block.
-pub mod Same
-pub mod Blocks

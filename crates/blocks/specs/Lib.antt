@@ -1,2 +1,0 @@
--- Lists of calls on a block.
-pub mod Reached

@@ -1,2 +1,0 @@
--- The laws of a flush.
-pub mod FirstLap

@@ -1,2 +1,0 @@
--- The laws of a write's completion.
-pub mod CompletionLaws

@@ -1,2 +1,0 @@
--- What a write's completion means.
-pub mod WriteComplete

@@ -1,2 +1,0 @@
--- Lists of calls.
-pub mod Reached

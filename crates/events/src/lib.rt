@@ -1,2 +1,0 @@
-// The events of a list.
-pub mod event;

@@ -1,2 +1,0 @@
--- The laws of the flash.
-pub mod Slots

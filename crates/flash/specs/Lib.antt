@@ -1,2 +1,0 @@
--- "Bench flash".
-pub mod Flash

@@ -1,0 +1,264 @@
+// The block that a caller lends: 32 + 3 × width bytes with the log and what the last call gave.
+ghost use mathlib.Core.Path.{_≡_};
+ghost use mathlib.Core.List.{List, [], _∷_};
+ghost use Prim.Native.Nat.{ℕ, _+_, _*_, _≤_};
+ghost use lib.ListN.{length, getD};
+ghost use Rattle.page.specs.Sizes.{Width};
+ghost use Rattle.page.specs.Bytes.{overwrite};
+ghost use Rattle.engine_state.specs.Answer.{reportOf, requestOf};
+ghost use Rattle.engine_state.specs.Log.{setupOf, logOf};
+ghost use Rattle.engine_call.specs.Outcome.{Lent, Lengths, doneOf};
+ghost use Rattle.punelovash_block.specs.Block.{Words, WordsIn, blockSize, flagsAt, setupAt, logAt, loadedOf, loaded, reportNumbers, withLog};
+ghost use Rattle.punelovash_block.specs.Block.{withReport, withRequest, sized};
+ghost use Rattle.punelovash_block.specs.Call.{blockDone, noLog, ran, AsIfLent};
+use crate::numbers;
+use crate::numbers::flag;
+use crate::numbers::report_kind;
+use crate::numbers::report_length;
+use crate::numbers::report_lost;
+use crate::numbers::report_result;
+use crate::numbers::request_kind;
+use crate::numbers::request_page;
+use engine_call::outcome::Outcome;
+use engine_state::answer;
+use engine_state::answer::Report;
+use engine_state::answer::Request;
+use engine_state::check;
+use engine_state::state;
+use engine_state::state::Geometry;
+use engine_state::state::Log;
+use page::id::EntryID;
+use page::word;
+
+// The answers to a block that holds no log.
+pub(crate) const SHAPE: u32 = 20;
+
+pub(crate) const STATE: u32 = 21;
+
+// The places before the IDs, of which the oldest is the first.
+const PAGE_SIZE_AT: usize = 0;
+
+const PAGE_COUNT_AT: usize = 4;
+
+const FIRST_PAGE_AT: usize = 8;
+
+const FLAGS_AT: usize = 12;
+
+const STATE_AT: usize = 15;
+
+const OLDEST_AT: usize = 16;
+
+// The places after the IDs, without the IDs' bytes.
+const KEPT_AT: usize = 16;
+
+const REPORT_AT: usize = 20;
+
+const LOST_AT: usize = 21;
+
+const RESULT_AT: usize = 22;
+
+const REQUEST_AT: usize = 23;
+
+const LENGTH_AT: usize = 24;
+
+const PAGE_AT: usize = 28;
+
+const BLOCK_END: usize = 32;
+
+// A place after the three IDs.
+fn past_ids(width: usize, at: usize) -> usize
+    requires { ⌜ Width width × (at ≤ 32) ⌝ }
+    ensures { λ r. ⌜ r ≡ at + 3 * width ⌝ }
+{
+    at + 3 * width
+}
+
+// The bytes of a block.
+pub(crate) fn block_size(width: usize) -> usize
+    requires { ⌜ Width width ⌝ }
+    ensures { λ r. ⌜ r ≡ blockSize width ⌝ }
+{
+    past_ids(width, BLOCK_END)
+}
+
+// The log in a block, or that it holds none.
+pub enum Loaded {
+    Log(Log),
+    Bad,
+}
+
+// A byte goes to its place.
+fn put_byte(block: &mut [u8], at: usize, byte: u8)
+    requires { ⌜ at + 1 ≤ length (now block) ⌝ }
+    ensures { λ r. ⌜ now (block .exit) ≡ overwrite (now (block .entry)) at (byte ∷ []) ⌝ }
+{
+    block[at] = byte;
+}
+
+// The sizes of a log.
+fn sizes_at(block: &[u8]) -> Geometry
+    requires { ⌜ flagsAt ≤ length (now block) ⌝ }
+    ensures { λ r. ⌜ ((w : ℕ) → setupOf w r (setupAt w (now (block .entry)) .circular) ≡ setupAt w (now (block .entry))) × Words r ⌝ }
+{
+    Geometry {
+        page_size: word::read_four(block, PAGE_SIZE_AT) as usize,
+        page_count: word::read_four(block, PAGE_COUNT_AT) as usize,
+        first_page: word::read_four(block, FIRST_PAGE_AT) as usize,
+    }
+}
+
+// The log of a block whose bytes were tested.
+fn log_at(width: usize, block: &[u8]) -> Log
+    requires { ⌜ Width width × (length (now block) ≡ blockSize width) × (getD (now block) flagsAt 0 ≤ 7) ⌝ }
+    ensures { λ r. ⌜ (logOf width r ≡ logAt width (now (block .entry))) × Words (r .geometry) ⌝ }
+{
+    let geometry = sizes_at(block);
+    let state = numbers::state_from(block[STATE_AT]);
+    let oldest = EntryID(word::read_word(width, block, OLDEST_AT));
+    let read = EntryID(word::read_word(width, block, OLDEST_AT + width));
+    let append = EntryID(word::read_word(width, block, OLDEST_AT + 2 * width));
+    let flags = block[FLAGS_AT];
+    Log {
+        geometry,
+        circular: flags % 2 == 1,
+        read_client: flags / 2 % 2 == 1,
+        append_client: 4 <= flags,
+        state,
+        oldest_entry_id: oldest,
+        read_entry_id: read,
+        append_entry_id: append,
+        length: word::read_word(4, block, past_ids(width, KEPT_AT)),
+    }
+}
+
+// What is no log is told from one: another length, flags above 7, a state above 5.
+pub(crate) fn load(width: usize, block: &[u8]) -> Loaded
+    requires { ⌜ Width width ⌝ }
+    ensures { λ r. ⌜ (loadedOf width r ≡ loaded width (now (block .entry))) × WordsIn r ⌝ }
+{
+    if block.len() != block_size(width) {
+        return Loaded::Bad;
+    }
+    if 7 < block[FLAGS_AT] {
+        return Loaded::Bad;
+    }
+    if 5 < block[STATE_AT] {
+        return Loaded::Bad;
+    }
+    Loaded::Log(log_at(width, block))
+}
+
+// The answer to a block that holds no log: SHAPE where its sizes don't fit.
+pub(crate) fn no_log(
+    width: usize,
+    block: &[u8],
+    volume_len: usize,
+    page_len: usize,
+    hold_len: usize,
+) -> u32
+    requires { ⌜ Width width ⌝ }
+    ensures { λ r. ⌜ ((x : Lent) → Lengths x «volume_len» «page_len» «hold_len» → r ≡ noLog width (now (block .entry)) x) ⌝ }
+{
+    if block.len() != block_size(width) {
+        return STATE;
+    }
+    let geometry = sizes_at(block);
+    if check::shape_fits(width, geometry, volume_len, page_len, hold_len) {
+        return STATE;
+    }
+    SHAPE
+}
+
+// The lengths of what is not lent, by a log's own sizes.
+pub(crate) struct LentSizes {
+    pub volume: usize,
+    pub page: usize,
+}
+
+pub(crate) fn as_if_lent(geometry: Geometry) -> LentSizes
+    requires { ⌜ Words geometry ⌝ }
+    ensures { λ r. ⌜ (r .volume ≡ geometry .«page_count» * geometry .«page_size») × (r .page ≡ geometry .«page_size») ⌝ }
+{
+    LentSizes {
+        volume: geometry.page_count * geometry.page_size,
+        page: geometry.page_size,
+    }
+}
+
+// The same answer to a call that is lent nothing but the block.
+pub(crate) fn no_log_alone(width: usize, block: &[u8]) -> u32
+    requires { ⌜ Width width ⌝ }
+    ensures { λ r. ⌜ ((x : Lent) → AsIfLent (setupAt width (now (block .entry))) x → r ≡ noLog width (now (block .entry)) x) ⌝ }
+{
+    if block.len() != block_size(width) {
+        return STATE;
+    }
+    let lent = as_if_lent(sizes_at(block));
+    no_log(width, block, lent.volume, lent.page, lent.page)
+}
+
+fn save_log(width: usize, log: Log, block: &mut [u8])
+    requires { ⌜ Width width × (length (now block) ≡ blockSize width) ⌝ }
+    ensures { λ r. ⌜ now (block .exit) ≡ withLog width (logOf width log) (now (block .entry)) ⌝ }
+{
+    let state = log.state;
+    put_byte(block, STATE_AT, state::state_number(state));
+    word::write_word(width, block, OLDEST_AT, log.oldest_entry_id.0);
+    word::write_word(width, block, OLDEST_AT + width, log.read_entry_id.0);
+    word::write_word(width, block, OLDEST_AT + 2 * width, log.append_entry_id.0);
+    word::write_word(4, block, past_ids(width, KEPT_AT), log.length);
+}
+
+fn save_report(width: usize, report: Report, block: &mut [u8])
+    requires { ⌜ Width width × (length (now block) ≡ blockSize width) ⌝ }
+    ensures { λ r. ⌜ now (block .exit) ≡ withReport width (reportNumbers (reportOf report)) (now (block .entry)) ⌝ }
+{
+    put_byte(block, past_ids(width, REPORT_AT), report_kind(report));
+    put_byte(block, past_ids(width, LOST_AT), flag(report_lost(report)));
+    put_byte(block, past_ids(width, RESULT_AT), report_result(report));
+    word::write_word(4, block, past_ids(width, LENGTH_AT), report_length(report));
+}
+
+fn save_request(width: usize, request: Request, block: &mut [u8])
+    requires { ⌜ Width width × (length (now block) ≡ blockSize width) ⌝ }
+    ensures { λ r. ⌜ now (block .exit) ≡ withRequest width (requestOf request) (now (block .entry)) ⌝ }
+{
+    put_byte(block, past_ids(width, REQUEST_AT), request_kind(request));
+    word::write_word(4, block, past_ids(width, PAGE_AT), request_page(request));
+}
+
+// The block takes what a call gave; the answer's number.
+pub(crate) fn save(width: usize, given: Outcome, block: &mut [u8]) -> u32
+    requires { ⌜ Width width × (length (now block) ≡ blockSize width) ⌝ }
+    ensures { λ r. ⌜ ((page hold : List ℕ) → blockDone r (now (block .exit)) page hold ≡ ran width (now (block .entry)) (doneOf width given page hold)) ⌝ }
+{
+    let log = given.log;
+    let answer = given.answer;
+    let report = given.report;
+    let request = given.request;
+    save_log(width, log, block);
+    save_report(width, report, block);
+    save_request(width, request, block);
+    answer::answer_number(answer) as u32
+}
+
+// The block takes a log's sizes, mode and client flags.
+pub(crate) fn save_sizes(
+    geometry: Geometry,
+    circular: bool,
+    read_client: bool,
+    append_client: bool,
+    block: &mut [u8],
+)
+    requires { ⌜ 13 ≤ length (now block) ⌝ }
+    ensures { λ r. ⌜ ((w : ℕ) → now (block .exit) ≡ sized (setupOf w geometry circular) «read_client» «append_client» (now (block .entry))) ⌝ }
+{
+    word::write_word(4, block, PAGE_SIZE_AT, geometry.page_size);
+    word::write_word(4, block, PAGE_COUNT_AT, geometry.page_count);
+    word::write_word(4, block, FIRST_PAGE_AT, geometry.first_page);
+    put_byte(
+        block,
+        FLAGS_AT,
+        flag(circular) + 2 * flag(read_client) + 4 * flag(append_client),
+    );
+}

@@ -1,0 +1,3 @@
+-- Calls on a block.
+pub mod Blocks
+pub mod Boards

@@ -1,0 +1,2 @@
+-- Blocks that hold logs.
+pub mod Reached

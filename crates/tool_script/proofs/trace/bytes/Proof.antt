@@ -1,0 +1,21 @@
+-- `tool_script::trace::bytes` is safe and ends.
+use Prim.Native.Nat.{_-_}
+use native.Mathlib.Omega.{arith}
+use mathlib.Core.Path.{_≡_}
+use lib.ListN.{length}
+use borrow.Author.Needs.{needs}
+use Rattle.tool_script.proofs.trace.bytes.Statement.{statement}
+use Rattle.tool_script.proofs.trace.bytes.Tie as tie
+
+abbrev Inv-loop : tie.InvT-loop
+Inv-loop line₀ at bytes end₀ i₀ line end i = length line ≡ length line₀
+
+abbrev μ-loop : tie.MeasureT-loop
+μ-loop line₀ at bytes end₀ i₀ line end i = length bytes - i
+
+pub bytes-spec : {M : Type 1} → statement M
+bytes-spec =
+    tie.close
+    (tie.spec Inv-loop μ-loop (λ c. search needs) (λ c κs. search needs) (λ c. search needs) (λ c. search needs) (λ c κs. search needs)
+    (λ c. omega arith) (λ c. omega arith) (λ c κs. search needs) (λ c κs. search needs) (λ c κs. search needs) (λ c κs. search needs)
+    (λ c. omega arith) (λ c. omega arith) (λ c. omega arith) (λ c. search needs) (λ c. search needs))

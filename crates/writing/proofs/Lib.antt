@@ -1,2 +1,0 @@
--- The laws of append.
-pub mod AppendLaws
