@@ -28,7 +28,7 @@
  *     block    PUNELOVASH_BLOCK_SIZE bytes: the log, and what the last call gave (layout below). No alignment is needed. Only
  *              the library writes it.
  *     volume   the flash of the log, L bytes, readable as memory. It is never written through this pointer: the caller's driver writes it.
- *     page     the page buffer, P bytes: the newest page, before it is on flash.
+ *     page     the page buffer, P bytes: the open page, to which entries are appended, and which a write puts on flash.
  *     hold     the hold buffer, P bytes: an append's data, while the page before it is written.
  *
  * A pointer is never null, even where its length is 0: then any other pointer will do, and it is not followed. What is lent
@@ -56,9 +56,9 @@
  *     22 STRAY   as before    a completion or a deferred call that isn't due
  *     23 LIMIT   as before    an append that needs a page at C
  *
- * What the driver's word leaves is said at each call. SHAPE, STATE and STRAY come before all else; a block of another length
- * or with such flags or state is refused as STATE before SHAPE. After 20 and 21 there is no report and no request, but the
- * block from PUNELOVASH_AT_REPORT on may still be that of an earlier call: look at the answer first.
+ * What the driver's word leaves is said at each call. SHAPE, STATE and STRAY come before all else; only a block of another
+ * length has no sizes that SHAPE could look at: it is STATE. Where the block holds no log, no byte of it changes: the block from
+ * PUNELOVASH_AT_REPORT on may still be that of an earlier call. After any other refusal it says no report and no request.
  *
  * How the flash is driven
  * -----------------------
@@ -91,9 +91,28 @@
  * A power cut may fall anywhere. After it comes a restart, with the sizes and mode of before. A restart while an operation is
  * under way is a cut: let the flash come to rest first.
  *
- * What is not promised: an entry reported done is on flash only once its page is written, by a sync reported OK or by the
- * write that a later append needs. An entry whose length has the remainder 0 or 255 by 256 may hide itself and what follows
- * in its page from a read or a restart: keep to other lengths.
+ * What a power cut can still take
+ * -------------------------------
+ * An entry reported done is on flash only once its page was written: by a sync reported OK, or by the write that a later append
+ * needs because the page has no more room. A cut before that takes the entry.
+ *
+ * And a page is written again: by every sync while it is open, and after a restart also if it isn't full and no later page is
+ * on flash. A cut in such a write that leaves the page blank (all 0xFF) takes all of its entries, those too that were synced
+ * before; one that leaves it old takes those appended since its last write. No other page is changed. With P = 32: append,
+ * sync reported OK, append, sync cut and left blank: the log is empty. An entry is out of reach of a cut once a page with a
+ * higher number than its own is on flash, until the log comes round to its slot or is erased.
+ *
+ * Each sync of a page with entries costs the erase and the write of that page, also where nothing was appended since the last.
+ *
+ * After a restart a read may answer FAIL before A, at a blank page in the middle of the log: a flush that failed or was refused
+ * has left an old page, and an erase behind it was stopped. To read on, let b be R / P rounded up, the blank page's number: if
+ * (b + 1) * P + w is at most A, seek to it and read on; if it is above A, this was the end of the log.
+ *
+ * What else is not promised
+ * -------------------------
+ * An entry whose length has the remainder 0 or 255 by 256 may hide itself and what follows in its page from a read or a
+ * restart: keep to other lengths. A page torn by a cut otherwise than said under 2 is outside of what is proved of restarts;
+ * every call is still safe on it.
  */
 #ifndef PUNELOVASH_H
 #define PUNELOVASH_H
@@ -223,8 +242,10 @@ static inline uint32_t punelovash8_request_page(const uint8_t *block) { return p
  *   first_page    the flash page number of the volume's first page, at most 16,777,215
  *   circular      0: a plain log, which is full after N pages; else the oldest page makes room
  *   read_client, append_client    0: the calls of that client are refused as RESERVE
- * Answers OK, SHAPE, or STATE if the block has another length. On OK the log is Idle, O = R, and the page buffer holds the
- * newest page. An empty volume gives O = R = A = w. Refused: block and page are as before.
+ * Answers OK, SHAPE, or STATE if the block has another length. On OK the log is Idle and O = R. The page buffer holds the newest
+ * page; but if that page is full and the next may be opened, the next one is open in the page buffer: its header, w bytes, is
+ * written there, and the buffer's other bytes stay. A volume with no page gives O = R = A = w and a page buffer of zeros.
+ * Refused: block and page are as before.
  */
 uint32_t punelovash_restart(uint8_t *block, size_t block_length,
                             uint32_t page_size, uint32_t page_count, uint32_t first_page,
@@ -282,7 +303,8 @@ uint32_t punelovash8_read(uint8_t *block, size_t block_length,
                           size_t length);
 
 /*
- * R becomes entry_id, which should be one that log_start, log_end or next_read_entry_id has given.
+ * R becomes entry_id, which should be one that log_start, log_end or next_read_entry_id has given, or that of a page's first
+ * entry, page number * P + w.
  * Answers, in this order: SHAPE, STATE, BUSY; INVAL (not O <= entry_id <= A), RESERVE (no read client); then OK, state Seek;
  * punelovash_deferred_call reports seek_done(OK).
  */
@@ -290,7 +312,8 @@ uint32_t punelovash_seek(uint8_t *block, size_t block_length, size_t entry_id);
 uint32_t punelovash8_seek(uint8_t *block, size_t block_length, uint64_t entry_id);
 
 /*
- * Writes the page buffer to flash, so that what was appended outlasts a power cut.
+ * Writes the page buffer to flash: what was appended is there once sync_done(OK) is reported. A cut in a later write of the same
+ * page can still take it: see "What a power cut can still take".
  * Answers, in this order: SHAPE, STATE; OK with no report and no request where A mod P = w (the page has no entry), even when
  * busy; BUSY, RESERVE (no append client); then OK, or the driver's word. The page buffer's tail is padded and a write of it is
  * requested, also where nothing was appended since the last sync; O and R may move as by append. State Sync;
@@ -384,7 +407,7 @@ uint32_t punelovash8_survey(uint32_t page_size, uint32_t page_count, uint32_t fi
 size_t punelovash_log_start(const uint8_t *block, size_t block_length);
 uint64_t punelovash8_log_start(const uint8_t *block, size_t block_length);
 
-/* A, the end of the log: the ID of the next entry, if that fits in the page. */
+/* A, the end of the log: the ID that the next entry will have, if it fits in the page. It is no entry's that is there now. */
 size_t punelovash_log_end(const uint8_t *block, size_t block_length);
 uint64_t punelovash8_log_end(const uint8_t *block, size_t block_length);
 

@@ -1070,15 +1070,15 @@ static void refusals(void)
             { board->at_flags, 8 }, { board->at_flags, 128 }, { board->at_flags, 255 }, { board->at_state, 6 }
         };
         memcpy(good, b.block, board->block_size);
-#define NO_LOG(block_, length_) do { \
-        SAME(board->append(block_, length_, b.volume, v, b.page, 32, b.hold, 32, ones, 5, 5, 0), PUNELOVASH_STATE, "append"); \
-        SAME(board->read(block_, length_, b.volume, v, b.page, 32, b.buffer, 32, 32), PUNELOVASH_STATE, "read"); \
-        SAME(board->seek(block_, length_, w), PUNELOVASH_STATE, "seek"); \
-        SAME(board->sync(block_, length_, b.volume, v, b.page, 32, b.hold, 32, 0), PUNELOVASH_STATE, "sync"); \
-        SAME(board->erase(block_, length_, 0), PUNELOVASH_STATE, "erase"); \
-        SAME(board->write_complete(block_, length_, b.volume, v, b.page, 32, b.hold, 32, 1), PUNELOVASH_STATE, "write_complete"); \
-        SAME(board->erase_complete(block_, length_, b.volume, v, b.page, 32, b.hold, 32, 1, 0), PUNELOVASH_STATE, "erase_complete"); \
-        SAME(board->deferred_call(block_, length_), PUNELOVASH_STATE, "deferred_call"); \
+#define NO_LOG(block_, length_, answer_) do { \
+        SAME(board->append(block_, length_, b.volume, v, b.page, 32, b.hold, 32, ones, 5, 5, 0), answer_, "append"); \
+        SAME(board->read(block_, length_, b.volume, v, b.page, 32, b.buffer, 32, 32), answer_, "read"); \
+        SAME(board->seek(block_, length_, w), answer_, "seek"); \
+        SAME(board->sync(block_, length_, b.volume, v, b.page, 32, b.hold, 32, 0), answer_, "sync"); \
+        SAME(board->erase(block_, length_, 0), answer_, "erase"); \
+        SAME(board->write_complete(block_, length_, b.volume, v, b.page, 32, b.hold, 32, 1), answer_, "write_complete"); \
+        SAME(board->erase_complete(block_, length_, b.volume, v, b.page, 32, b.hold, 32, 1, 0), answer_, "erase_complete"); \
+        SAME(board->deferred_call(block_, length_), answer_, "deferred_call"); \
         SAME(board->log_start(block_, length_), 0, "log_start"); \
         SAME(board->log_end(block_, length_), 0, "log_end"); \
         SAME(board->next_read_entry_id(block_, length_), 0, "next_read_entry_id"); \
@@ -1088,13 +1088,23 @@ static void refusals(void)
         for (size_t k = 0; k < sizeof wrong / sizeof wrong[0]; k++) {
             b.block[wrong[k].at] = wrong[k].byte;
             memcpy(bad, b.block, board->block_size);
-            NO_LOG(b.block, board->block_size);
+            NO_LOG(b.block, board->block_size, PUNELOVASH_STATE);
+            /* SHAPE first: what is lent has another length, or the block's own sizes aren't allowed */
+            SAME(board->sync(b.block, board->block_size, b.volume, v - 1, b.page, 32, b.hold, 32, 0), PUNELOVASH_SHAPE, "volume, no log");
+            SAME(board->read(b.block, board->block_size, b.volume, v, b.page, 31, b.buffer, 32, 32), PUNELOVASH_SHAPE, "page, no log");
             CHECK(memcmp(b.block, bad, board->block_size) == 0, "a block that holds no log changed");
+            put_sizes(b.block, 33, 4, 0);
+            memcpy(bad, b.block, board->block_size);
+            NO_LOG(b.block, board->block_size, PUNELOVASH_SHAPE);
+            CHECK(memcmp(b.block, bad, board->block_size) == 0, "a block with other sizes changed");
+            memset(b.block, 0, board->block_size);
+            b.block[wrong[k].at] = wrong[k].byte;
+            NO_LOG(b.block, board->block_size, PUNELOVASH_SHAPE);
             memcpy(b.block, good, board->block_size);
         }
         memset(b.block, 0xEE, board->block_size);
         memset(bad, 0xEE, sizeof bad);
-        NO_LOG(b.block, board->block_size);
+        NO_LOG(b.block, board->block_size, PUNELOVASH_SHAPE);
         CHECK(memcmp(b.block, bad, board->block_size) == 0, "a block of garbage changed");
         memcpy(b.block, good, board->block_size);
 
@@ -1103,19 +1113,14 @@ static void refusals(void)
             const size_t lengths[] = { board->block_size - 1, board->block_size + 1, 0,
                 PUNELOVASH_BLOCK_SIZE + PUNELOVASH8_BLOCK_SIZE - board->block_size };
             for (size_t k = 0; k < sizeof lengths / sizeof lengths[0]; k++) {
-                NO_LOG(b.block, lengths[k]);
+                NO_LOG(b.block, lengths[k], PUNELOVASH_STATE);
                 SAME(board->restart(b.block, lengths[k], 32, 4, 0, 1, 1, 1, b.volume, v, b.page, 32, b.hold, 32), PUNELOVASH_STATE, "restart");
             }
         }
         SAME(board->restart(b.block, 0, 0, 0, 0, 1, 1, 1, b.volume, 0, b.page, 0, b.hold, 0), PUNELOVASH_STATE, "restart of no bytes");
         CHECK(memcmp(b.block, good, board->block_size) == 0, "a block of another length changed");
 
-        /* no log by its flags comes before SHAPE */
-        b.block[board->at_flags] = 8;
-        SAME(board->sync(b.block, board->block_size, b.volume, v - 1, b.page, 32, b.hold, 32, 0), PUNELOVASH_STATE, "STATE before SHAPE");
-        memcpy(b.block, good, board->block_size);
-
-        /* IDs that are no log's; SHAPE comes first there */
+        /* IDs that are no log's */
         b.block[board->at_oldest] = (uint8_t)(w + 1);
         REFUSED(&b, append(&b, ones, 5, 5, 0), PUNELOVASH_STATE);
         REFUSED(&b, sync_log(&b, 0), PUNELOVASH_STATE);

@@ -406,20 +406,29 @@ fn a_block_that_holds_no_log<W: Word>() {
     let volume = [0xFF; 128];
     let (flags, state) = (At::<W>::FLAGS, At::<W>::STATE);
     for (at, byte) in [(flags, 8), (flags, 128), (flags, 255), (state, 6)] {
-        let mut block = W::ZEROS;
-        block.as_mut()[at] = byte;
-        block.as_mut()[At::<W>::REPORT] = 1; // a report and a request that nobody made
-        block.as_mut()[At::<W>::REQUEST] = 1;
-        let mut log = Log::<_, W>::from_parts(block, [0; 32], [0; 32]);
-        assert_eq!(log.append(&volume, &ONES, 1, OK), nothing(Answer::State));
-        assert_eq!(log.erase(OK), nothing(Answer::State));
-        let start = |_: Request, _: &[u8]| panic!("nothing is requested");
-        assert_eq!(log.sync_with(&volume, start), nothing(Answer::State));
-        assert_eq!(log.block(), &block);
-        assert_eq!(log.state().is_none(), at == state);
-        assert_eq!(ids(&log), (0, 0, 0));
-        let got = log.restart(SIZES, CIRCULAR, &volume);
-        assert_eq!(got, nothing(Answer::Ok));
+        // sizes that aren't allowed are SHAPE, and with others it is STATE
+        for (page_size, answer) in [(0, Answer::Shape), (P as u8, Answer::State)] {
+            let mut block = W::ZEROS;
+            block.as_mut()[At::<W>::PAGE_SIZE] = page_size;
+            block.as_mut()[At::<W>::PAGE_COUNT] = 4;
+            block.as_mut()[at] = byte;
+            block.as_mut()[At::<W>::REPORT] = 1; // a report and a request that nobody made
+            block.as_mut()[At::<W>::REQUEST] = 1;
+            let mut log = Log::<_, W>::from_parts(block, [0; 32], [0; 32]);
+            assert_eq!(log.append(&volume, &ONES, 1, OK), nothing(answer));
+            assert_eq!(log.erase(OK), nothing(answer));
+            let start = |_: Request, _: &[u8]| panic!("nothing is requested");
+            assert_eq!(log.sync_with(&volume, start), nothing(answer));
+            assert_eq!(
+                log.append(&volume[1..], &ONES, 1, OK),
+                nothing(Answer::Shape)
+            );
+            assert_eq!(log.block(), &block);
+            assert_eq!(log.state().is_none(), at == state);
+            assert_eq!(ids(&log), (0, 0, 0));
+            let got = log.restart(SIZES, CIRCULAR, &volume);
+            assert_eq!(got, nothing(Answer::Ok));
+        }
     }
 }
 

@@ -45,7 +45,7 @@ fn number(block: &[u8], at: usize) -> usize {
     u32::from_le_bytes(block[at..at + 4].try_into().unwrap()) as usize
 }
 
-/// Flags and a state that a log can have, so that there are sizes to look at.
+/// Flags and a state that a log can have.
 fn holds_log<W: Word>(block: &[u8]) -> bool {
     block[At::<W>::FLAGS] <= 7 && block[At::<W>::STATE] <= 5
 }
@@ -178,8 +178,10 @@ fn any_bytes_are_answered_by_the_table<W: Word>() {
                 _ => &fits[..],
             };
             let fit = sizes_fit::<W>(before) && lent.iter().all(|fits| *fits);
-            let shape = holds_log::<W>(before) && !fit;
-            assert_eq!(got.answer == Answer::Shape, shape, "call {call}: {got:?}");
+            assert_eq!(got.answer == Answer::Shape, !fit, "call {call}: {got:?}");
+            if fit && !holds_log::<W>(before) {
+                assert_eq!(got.answer, Answer::State);
+            }
             // sizes, mode and clients are a restart's to set
             assert_eq!(after[..At::<W>::STATE], before[..At::<W>::STATE]);
         } else if got.answer == Answer::Ok {
