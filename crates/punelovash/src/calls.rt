@@ -1,4 +1,4 @@
-// The calls, on a block of the board with 4-byte words. Each is the call of `capi` at that width.
+// The calls, on a block of the board with 4-byte words. Each is the call of `punelovash_block` at that width.
 ghost use mathlib.Core.Path.{_≡_};
 ghost use lib.ListN as lists;
 ghost use Rattle.engine_call.specs.Outcome.{Lent, lend};

@@ -1,4 +1,4 @@
-// The board with 4-byte words, for C and Rust: the functions of `capi` at that width, exported by name.
+// The board with 4-byte words, for C and Rust: the functions of `punelovash_block` at that width, exported by name.
 pub mod calls;
 pub mod get;
 pub mod restart;
