@@ -19,7 +19,7 @@ use Rattle.page.proofs.Pages.{length-encode, entriesLength-append, begins-entry
 use Rattle.engine_state.specs.Log.{Setup}
 use Rattle.engine_state.specs.Check.{Sized}
 use Rattle.engine_state.specs.Open.{mayOpen}
-use Rattle.bench.specs.Book.{Page, Book, allowed, joined}
+use Rattle.bench.specs.Book.{Page, Book, allowed, withEntry}
 use Rattle.bench.proofs.Invariant.{SomeEntry, Books, Buffered, Live, Oldest}
 use Rattle.bench.proofs.BookSteps.{may-allowed, not-nil}
 
@@ -133,7 +133,7 @@ module _ {g : Setup} {volume : List ℕ} {b : Book} (bk : Books g volume b) {pag
     stored-room = omega (arith, longer w es e, fits, offset-open partly, partly)
 
     -- it stands at the end of the open page
-    pub stored-buffer : Buffered g (overwrite page (offsetOf p a) (encode w e)) (a + length e + w) (joined (b .open-page) e)
+    pub stored-buffer : Buffered g (overwrite page (offsetOf p a) (encode w e)) (a + length e + w) (withEntry (b .open-page) e)
     stored-buffer =
         let at : overwrite page (offsetOf p a) (encode w e) ≡ overwrite page (pageLength w es) (encode w e) =
         ap (λ (i : ℕ). overwrite page i (encode w e)) (offset-open partly) in
@@ -146,9 +146,9 @@ module _ {g : Setup} {volume : List ℕ} {b : Book} (bk : Books g volume b) {pag
 
 -- an entry that joins the open page leaves O's page
 pub joined-oldest : {g : Setup} {oldest : ℕ} {slots : ℕ → Option Page} {k : Page} → Oldest g oldest slots k → (e : List ℕ)
-    → Oldest g oldest slots (joined k e)
+    → Oldest g oldest slots (withEntry k e)
 joined-oldest {g} {slots = slots} {k} o e = record { page = o .page; first = o .first; near = o .near; live = λ m h. alive m (o .live m h) }
   where
-    alive : (m : ℕ) → Live g k (o .page) m → Live g (joined k e) (o .page) m
+    alive : (m : ℕ) → Live g k (o .page) m → Live g (withEntry k e) (o .page) m
     alive m (inl h) = inl h
     alive m (inr h) = inr (h .0, not-nil (k .entries) e)

@@ -35,7 +35,8 @@ use Rattle.bench_flash.specs.Flash.{Operation, Left, old, blank, new, inSlot, b
 use Rattle.bench_flash.proofs.Slots.{in-slot, length-blank}
 use Rattle.bench_flash.specs.Event as event
 use Rattle.bench.specs.World.{unended, Told, endedBy}
-use Rattle.bench.specs.Book.{Page, Book, allowed, inBook, withSlot, withOpen, emptyPage, joined, appendDone, joins, asked, slotLeft, leftIn, recorded}
+use Rattle.bench.specs.Book.{Page, Book, allowed, inBook, withSlot, withOpen, emptyPage, withEntry, appendReported, joins, asked, slotLeft, leftIn}
+use Rattle.bench.specs.Book.{recorded}
 use Rattle.bench.proofs.Invariant.{SomeEntry, SlotHolds, Has, HasOrBlank, Near, Books, Buffered, Under, idle, read, seek, stuck, erase, sync, append}
 use Rattle.bench.proofs.BookPages.{one-page, no-page}
 
@@ -136,7 +137,7 @@ buffered-zero g z = record { page-length = length-replicate (g .p) 0; appends = 
 pub recorded-call : (g : Setup) (b : Book) (c : Call) → appendData c ≡ none → (t : Told) → t .ended ≡ unended
     → recorded g b (event.call c) t ≡ asked b (t .erases)
 unfolding recorded
-recorded-call g b c n t u = rw (n, u) (go (appendDone (t .report)))
+recorded-call g b c n t u = rw (n, u) (go (appendReported (t .report)))
   where
     go : (d : Bool) → asked (joins b (pick d none none)) (t .erases) ≡ asked b (t .erases)
     go true = refl
@@ -229,7 +230,7 @@ books-none g b z first whole slots none-there = record {
 module _ {g : Setup} {volume : List ℕ} {b : Book} (bk : Books g volume b) where
   -- an entry joins the open page
   pub books-join : (e : List ℕ) → Good (g .w) (g .p) e → pageLength (g .w) (b .open-page .entries ++ (e ∷ [])) ≤ g .p
-      → Books g volume (withOpen b (joined (b .open-page) e))
+      → Books g volume (withOpen b (withEntry (b .open-page) e))
   books-join e good fits = record {
     sizes = bk .sizes;
     first = bk .first;

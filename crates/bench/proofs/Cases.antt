@@ -12,7 +12,7 @@ use Rattle.page.specs.Header.{header, validIds}
 use Rattle.page.specs.Walk.{stops, hop, walkFrom}
 use Rattle.engine_state.specs.Log.{Setup, Log}
 use Rattle.engine_state.specs.Check.{sizesFit, shapeFits, keptFits, stateFits}
-use Rattle.engine_restart.specs.Restart.{atRest, opens, recovered, restart}
+use Rattle.engine_restart.specs.Restart.{atRest, opensAfter, recovered, restart}
 use Rattle.engine_call.specs.Outcome.{ok, firstOf}
 use Rattle.engine_call.specs.Call.{append, sync}
 use Rattle.engine_call.specs.Gate.{gateBy}
@@ -69,11 +69,11 @@ pub record Starred8 : Type 0 where
 
 -- all of them, by computation
 pub starred : Starred
-unfolding step restart recovered opens validIds header wordAt slotBytes walkFrom hop stops shapeFits sizesFit keptFits stateFits
+unfolding step restart recovered opensAfter validIds header wordAt slotBytes walkFrom hop stops shapeFits sizesFit keptFits stateFits
     firstOf gateBy fitsPage appendRuns store overwrite filled flush inSlot putSlot
 starred = record { engine = engine.cases; before = refl; cut-blank = refl; cut-new = refl }
 
 pub starred-8 : Starred8
-unfolding step restart recovered opens validIds header wordAt slotBytes walkFrom hop stops shapeFits sizesFit keptFits stateFits
+unfolding step restart recovered opensAfter validIds header wordAt slotBytes walkFrom hop stops shapeFits sizesFit keptFits stateFits
     firstOf gateBy fitsPage appendRuns store overwrite filled flush inSlot putSlot
 starred-8 = record { engine = engine.cases-8; before = refl; cut-blank = refl; cut-new = refl }

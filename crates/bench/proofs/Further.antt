@@ -26,9 +26,8 @@ use Rattle.engine_laws.specs.Call.{unlessDue}
 use Rattle.bench_flash.specs.Flash.{Operation, no-operation, writing, erasing, Left, old, blank, new, leftAfter}
 use Rattle.bench_flash.specs.Event.{Event, call, completion, cut, restart}
 use Rattle.bench.specs.World.{World, lentBy, Told, Step, endedBy, ending, ends, stepOn, stepOff, step}
-use Rattle.bench.specs.Book.{Page, Book, emptyPage, slotLeft, leftIn, fills, nextPage, appendDone, eraseDone, entryOf, joins, isOK, waits, asked, opens}
-use Rattle.bench.specs.Book.{emptied, pages, newest, reopened, fed, recorded}
-use Rattle.bench.specs.Book as book
+use Rattle.bench.specs.Book.{Page, Book, emptyPage, slotLeft, leftIn, fills, nextPage, appendReported, eraseReported, entryOf, joins, isOK, waits}
+use Rattle.bench.specs.Book.{asked, opens, emptied, pages, newest, reopened, syncReported, fed, recorded}
 use Rattle.bench.specs.Promise.{Bench, stepped, steppedAll, Clear, AllClear, NoHeader, start}
 use Rattle.bench.proofs.Invariant.{SlotHolds, Has, Books, Under, idle, read, seek, stuck, erase, sync, append, Running, Powered, Inv}
 use Rattle.bench.proofs.BookSteps.{slot-other}
@@ -152,7 +151,7 @@ unfolding recorded
 erased-empty {g} s i c left e =
     let t = step g (s .world) (completion c left) .told in
     let clear : Clear (entryOf (s .book) (completion c left) t) =
-    subst (λ (r : Report). Clear (pick (appendDone r) (some (s .book .waiting)) none)) (sym e) tt in
+    subst (λ (r : Report). Clear (pick (appendReported r) (some (s .book .waiting)) none)) (sym e) tt in
     let b : Book = leftIn (g .n) (s .book) (t .ended) in
     let then : Book = joins (opens g b (t .report)) (entryOf b (completion c left) t) in
     none-left (stepped g s (completion c left)) (step-keeps s i (completion c left) clear .keeps .books)
@@ -217,7 +216,7 @@ joins-slots b (some e) = refl
 
 waits-slots : (b : Book) (e : Option (List ℕ)) (t : Told) → waits b e t .slots ≡ b .slots
 waits-slots b none t = refl
-waits-slots b (some e) t = pick-slots (isOK (t .answer) && not (appendDone (t .report))) b (b .open-page) e
+waits-slots b (some e) t = pick-slots (isOK (t .answer) && not (appendReported (t .report))) b (b .open-page) e
 
 asked-slots : (b : Book) (s : Option ℕ) → asked b s .slots ≡ b .slots
 asked-slots b none = refl
@@ -230,9 +229,9 @@ fed-slots g b (call c) t =
 fed-slots g b (completion c left) t =
     let opened : Book = opens g b (t .report) in
     let then : Book = joins opened (entryOf b (completion c left) t) in
-    asked-slots (emptied then (t .report)) (t .erases) ∙ pick-slots (eraseDone (t .report)) then (emptyPage 0) (then .waiting)
+    asked-slots (emptied then (t .report)) (t .erases) ∙ pick-slots (eraseReported (t .report)) then (emptyPage 0) (then .waiting)
     ∙ joins-slots opened (entryOf b (completion c left) t)
-    ∙ pick-slots (appendDone (t .report) || (book.syncDone (t .report) && fills g (b .open-page))) b (nextPage g (b .open-page)) (b .waiting)
+    ∙ pick-slots (appendReported (t .report) || (syncReported (t .report) && fills g (b .open-page))) b (nextPage g (b .open-page)) (b .waiting)
 fed-slots g b (cut left) t = refl
 fed-slots g b (restart r) t = pick-slots (isOK (t .answer)) b (reopened g (newest (pages (g .n) (b .slots)))) (b .waiting)
 

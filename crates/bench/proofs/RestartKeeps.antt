@@ -25,7 +25,7 @@ use Rattle.engine_state.specs.Check.{shapeFits, stateFits}
 use Rattle.engine_state.specs.Open.{mayOpen}
 use Rattle.engine_state.proofs.Checks.{ShapeFits, shape-fits}
 use Rattle.engine_call.specs.Outcome.{Lent, lend}
-use Rattle.engine_restart.specs.Restart.{started, RestartDone, newestPage, walkedId, recoveredOf, opens, recovered, startedFrom, headers, restart}
+use Rattle.engine_restart.specs.Restart.{started, RestartDone, newestPage, walkedId, recoveredOf, opensAfter, recovered, startedFrom, headers, restart}
 use Rattle.engine_restart.proofs.Restarts.{recovers-opened, recovers-kept, opens-partial, opens-not}
 use Rattle.engine_restart.proofs.RestartState.{restart-fits}
 use Rattle.bench_flash.specs.Event.{Restart}
@@ -165,7 +165,7 @@ module _ {g : Setup} (y : World) {b : Book} (bk : Books g (y .volume) b) (r : Re
       same : j .number ≡ k .number → j .entries ≡ k .entries
       other : (j .number ≡ k .number → ⊥) → j .entries ≡ []
 
-    -- a restart that opens it
+    -- a restart that opensAfter it
     module _ (j : Page) (o : Opens j) where
       newest-old : k .number ≤ b .open-page .number
       newest-old = bk .near (k .number) has-newest .0
@@ -235,7 +235,7 @@ module _ {g : Setup} (y : World) {b : Book} (bk : Books g (y .volume) b) (r : Re
     end = walkedId g (k .number * g .p) (y .volume)
 
     -- a restart that keeps the newest page open
-    found-kept : opens g (k .number * g .p) (y .volume) ≡ false → Found g (worldBy (done (some ids))) (withOpen b k)
+    found-kept : opensAfter g (k .number * g .p) (y .volume) ≡ false → Found g (worldBy (done (some ids))) (withOpen b k)
     found-kept not-next =
         found-open k
         (record {
@@ -258,7 +258,7 @@ module _ {g : Setup} (y : World) {b : Book} (bk : Books g (y .volume) b) (r : Re
       may-next : mayOpen g end ≡ allowed g (k .number + 1)
       may-next = ap (mayOpen g) next-end ∙ may-allowed g (bk .sizes) (k .number + 1)
 
-      -- a restart that opens it
+      -- a restart that opensAfter it
       found-next : allowed g (k .number + 1) ≡ true → Found g (worldBy (done (some ids))) (withOpen b (emptyPage (k .number + 1)))
       found-next may =
           let up = ap (roundUp (g .p)) next-end ∙ round-first _ (sizes .page) (mul-mod-left (k .number + 1) (g .p)) in

@@ -24,7 +24,7 @@ use Rattle.bench.proofs.Theorem.{further}
 use Rattle.bench_step.specs.Step.{inPlace, restarts}
 use Rattle.bench_step.proofs.Steps.{cut-first}
 use Rattle.bench_run.specs.Entries.{ReadsOut, ReadOut, laid}
-use Rattle.bench_run.specs.Run.{noLog, after, again, Found, MatchesBook, Ran, Runs, ran}
+use Rattle.bench_run.specs.Run.{unstarted, after, again, FoundLog, MatchesBook, Ran, Runs, ran}
 use Rattle.bench_run.proofs.ReadLink.{read-fitting}
 
 -- bytes that are filled with zeros
@@ -87,7 +87,7 @@ ran-again {s} y {count} {used} {whole} {out = out} {out' = out'} e n r =
     }
 
 -- what a restart finds is what is read after it
-matches : (s : Bench) {f : Found} {x : Lent} {out out' : List ℕ} → Finds (s .world .log .setup) s → s .world .log .read-client ≡ true → Ran s f x out out'
+matches : (s : Bench) {f : FoundLog} {x : Lent} {out out' : List ℕ} → Finds (s .world .log .setup) s → s .world .log .read-client ≡ true → Ran s f x out out'
     → MatchesBook (s .world .log .setup) s f (length out) out'
 matches s {f} {x} {out} {out'} q client r =
     let g = s .world .log .setup in
@@ -105,7 +105,7 @@ matches s {f} {x} {out} {out'} q client r =
     }
 
 -- a list that ran, a further restart, and what was read then
-pub list-runs : {g : Setup} {es : List Event} {left : Left} {append-client : Bool} (x : Lent) {f : Found} {x' : Lent} {out out' : List ℕ}
+pub list-runs : {g : Setup} {es : List Event} {left : Left} {append-client : Bool} (x : Lent) {f : FoundLog} {x' : Lent} {out out' : List ℕ}
     → let s : Bench = after g es x in
     shapeFits g (length (x .volume)) (length (x .page)) (length (x .hold)) ≡ true → Ran (again g left append-client s) f x' out out'
     → length (x' .volume) ≡ length (x .volume) → length (s .world .page) ≡ length (x .page) → length (s .world .hold) ≡ length (x .hold)
@@ -118,4 +118,4 @@ list-runs {g} {es} {left} {append-client} x {f} {x'} {out} {out'} fit r v p h =
     ran fit r
     (λ no-header clear.
     subst (λ (k : Setup). Finds k end → MatchesBook k end f (length out) out') (a .setup) (λ q. matches end q (a .client) r)
-    (further g (noLog g) (x .volume) (x .page) (x .hold) no-header es clear (inPlace left true append-client (s .world)) (a .ok)))
+    (further g (unstarted g) (x .volume) (x .page) (x .hold) no-header es clear (inPlace left true append-client (s .world)) (a .ok)))

@@ -14,8 +14,8 @@ use Rattle.bench_flash.specs.Event.{Event}
 use Rattle.bench.specs.World.{World, Step, step, before}
 use Rattle.bench.specs.Book.{Book, emptyBook, recorded}
 use Rattle.bench.specs.Promise.{Bench, steppedAll}
-use Rattle.bench_run.specs.Encoded.{eventFrom, eventSize, complete, eventAt, decode}
-use Rattle.bench_run.specs.Run.{noLog, listed, after}
+use Rattle.bench_run.specs.Encoded.{eventFrom, eventSize, holdsEvent, eventAt, decode}
+use Rattle.bench_run.specs.Run.{unstarted, listed, after}
 use Rattle.bench_run.proofs.Lists.{Whole, decode-at, decode-none}
 
 -- a list has run up to a place: the world there is y, and the reads' buffer
@@ -30,7 +30,7 @@ pub record Upto (g : Setup) (list : List ℕ) (x : Lent) (room : ℕ) (y : World
 
 module _ {g : Setup} {list : List ℕ} {x : Lent} where
   -- nothing has run
-  pub upto-starts : (out : List ℕ) {y : World} → y ≡ before (noLog g) (x .volume) (x .page) (x .hold) → Upto g list x (length out) y out 0
+  pub upto-starts : (out : List ℕ) {y : World} → y ≡ before (unstarted g) (x .volume) (x .page) (x .hold) → Upto g list x (length out) y out 0
   upto-starts out {y} e = record {
     volume-same = ap (λ (y : World). length (y .volume)) e;
     page-same = ap (λ (y : World). length (y .page)) e;
@@ -67,7 +67,7 @@ module _ {g : Setup} {list : List ℕ} {x : Lent} where
           out-same = b ∙ u .out-same;
           within = omega (arith, u .within, c .fits, ap length r, length-drop at list);
           book = next;
-          onward = u .onward ∙ ap (steppedAll g (record { world = y; book = u .book })) (decode-at room list at (ap complete (sym r) ∙ c .all))
+          onward = u .onward ∙ ap (steppedAll g (record { world = y; book = u .book })) (decode-at room list at (ap holdsEvent (sym r) ∙ c .all))
               ∙ ap (λ (d : Step). steppedAll g (record { world = d .world; book = next }) (on (eventSize (drop at list)))) (sym same)
               ∙ ap (λ n. steppedAll g (record { world = z .world; book = next }) (on n)) (sym (c .is ∙ ap eventSize r));
         }
@@ -76,7 +76,7 @@ module _ {g : Setup} {list : List ℕ} {x : Lent} where
         on n = decode room 0 (drop (at + n) list)
 
     -- no event more
-    pub upto-ends : {rest : List ℕ} → rest ≡ drop at list → complete rest ≡ false → y ≡ after g (listed room list) x .world
+    pub upto-ends : {rest : List ℕ} → rest ≡ drop at list → holdsEvent rest ≡ false → y ≡ after g (listed room list) x .world
     upto-ends r c =
-        let no-event = decode-none room (drop at list) (ap complete (sym r) ∙ c) in
+        let no-event = decode-none room (drop at list) (ap holdsEvent (sym r) ∙ c) in
         ap (λ (s : Bench). s .world) (sym (u .onward ∙ ap (steppedAll g (record { world = y; book = u .book })) no-event))

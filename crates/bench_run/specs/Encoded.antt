@@ -15,8 +15,8 @@ use Rattle.bench_flash.specs.Event.{Restart, Event, call, completion, cut, rest
 
 -- the options, from the lowest bit: the driver's word (two bits: 0 OK, 1 BUSY, else FAIL), whether a completion is good, what an operation left
 -- (two bits: 0 old, 1 blank, else new), the read client, the append client; the highest bit is not looked at
-abbrev pub wordFrom : ℕ → Word
-wordFrom k = pick (eqb (k % 4) 0) ok (pick (eqb (k % 4) 1) busy fail)
+abbrev pub driverFrom : ℕ → Word
+driverFrom k = pick (eqb (k % 4) 0) ok (pick (eqb (k % 4) 1) busy fail)
 
 abbrev pub goodFrom : ℕ → Bool
 goodFrom k = eqb (k / 4 % 2) 1
@@ -45,14 +45,14 @@ restartFrom k n bytes = record {
 -- All reads get one buffer, whose length is `room`: what it holds is not looked at
 unfoldable pub eventFrom : ℕ → ℕ → ℕ → List ℕ → ℕ → Event
 eventFrom kind k n bytes room =
-    pick (eqb kind 0) (call (append bytes n (wordFrom k)))
+    pick (eqb kind 0) (call (append bytes n (driverFrom k)))
     (pick (eqb kind 1) (call (read room n))
     (pick (eqb kind 2) (call (seek n))
-    (pick (eqb kind 3) (call (sync (wordFrom k)))
-    (pick (eqb kind 4) (call (erase (wordFrom k)))
+    (pick (eqb kind 3) (call (sync (driverFrom k)))
+    (pick (eqb kind 4) (call (erase (driverFrom k)))
     (pick (eqb kind 5) (call deferred)
     (pick (eqb kind 6) (completion (write-ended (goodFrom k)) (leftFrom k))
-    (pick (eqb kind 7) (completion (erase-ended (goodFrom k) (wordFrom k)) (leftFrom k))
+    (pick (eqb kind 7) (completion (erase-ended (goodFrom k) (driverFrom k)) (leftFrom k))
     (pick (eqb kind 8) (cut (leftFrom k))
     (restart (restartFrom k n bytes))))))))))
 
@@ -63,8 +63,8 @@ headSize = 14
 unfoldable pub eventSize : List ℕ → ℕ
 eventSize list = headSize + wordAt 4 list 10
 
-unfoldable pub complete : List ℕ → Bool
-complete list = leb (eventSize list) (length list)
+unfoldable pub holdsEvent : List ℕ → Bool
+holdsEvent list = leb (eventSize list) (length list)
 
 unfoldable pub eventAt : ℕ → List ℕ → Event
 eventAt room list = eventFrom (getD list 0 0) (getD list 1 0) (wordAt 8 list 2) (take (wordAt 4 list 10) (drop headSize list)) room
@@ -73,4 +73,4 @@ eventAt room list = eventFrom (getD list 0 0) (getD list 1 0) (wordAt 8 list 2) 
 unfoldable pub decode : ℕ → ℕ → List ℕ → List Event
 decode room skip [] = []
 decode room (suc n) (b ∷ list) = decode room n list
-decode room zero (b ∷ list) = pick (complete (b ∷ list)) (eventAt room (b ∷ list) ∷ decode room (13 + wordAt 4 (b ∷ list) 10) list) []
+decode room zero (b ∷ list) = pick (holdsEvent (b ∷ list)) (eventAt room (b ∷ list) ∷ decode room (13 + wordAt 4 (b ∷ list) 10) list) []

@@ -16,17 +16,17 @@ use Rattle.bench.specs.World.{World, lentBy}
 use Rattle.bench.specs.Promise.{Bench, stepped, steppedAll, start, NoHeader, AllClear, bookOldest, bookAppend, bookEntries}
 use Rattle.bench_run.specs.Encoded.{decode}
 use Rattle.bench_run.specs.Entries.{ReadOut, fitting, laid}
-use Rattle.bench_run.specs.declared.run.Found as found
+use Rattle.bench_run.specs.declared.run.FoundLog as found
 use Rattle.bench_run.specs.declared.run.Ran as code
 use Rattle.bench_run.specs.declared.run.Ran.the-variants as r
 
 -- the log before the first restart is any; this one has the list's setup
-abbrev pub noLog : Setup → Log
-noLog g = atRest g false false 0 0
+abbrev pub unstarted : Setup → Log
+unstarted g = atRest g false false 0 0
 
 -- where the list begins, its events, and the bench after them; `room` is the length of the buffer that reads get
 abbrev pub atFirst : Setup → Lent → Bench
-atFirst g x = start (noLog g) (x .volume) (x .page) (x .hold)
+atFirst g x = start (unstarted g) (x .volume) (x .page) (x .hold)
 
 abbrev pub listed : ℕ → List ℕ → List Event
 listed room list = decode room 0 list
@@ -42,23 +42,23 @@ abbrev pub again : Setup → Left → Bool → Bench → Bench
 again g left append-client s = stepped g s (restartAgain left append-client (s .world))
 
 -- what the code's answer says: O, A, how many entries were read, how many bytes they take up, and whether reading went to the first FAIL
-pub record Found : Type 0 where
+pub record FoundLog : Type 0 where
   pub oldest : ℕ
   pub append : ℕ
   pub count : ℕ
   pub used : ℕ
   pub whole : Bool
 
-abbrev pub foundOf : found.Found → Found
-foundOf f = record { oldest = f .oldest .0; append = f .append .0; count = f .count; used = f .used; whole = f .whole }
+abbrev pub foundLogOf : found.FoundLog → FoundLog
+foundLogOf f = record { oldest = f .oldest .0; append = f .append .0; count = f .count; used = f .used; whole = f .whole }
 
-abbrev pub ranOf : code.Ran → Option Found
+abbrev pub ranOf : code.Ran → Option FoundLog
 ranOf r.Shape = none
-ranOf (r.Found f) = some (foundOf f)
+ranOf (r.Found f) = some (foundLogOf f)
 
 -- demand 3, of this list: exactly the book's O, A and entries. Where reading went to the first FAIL they are all of the book's; where not, they are
 -- the front of them, as many as there is room for, and `used` says how far
-pub record MatchesBook (g : Setup) (s : Bench) (f : Found) (room : ℕ) (out' : List ℕ) : Type 0 where
+pub record MatchesBook (g : Setup) (s : Bench) (f : FoundLog) (room : ℕ) (out' : List ℕ) : Type 0 where
   pub oldest : f .oldest ≡ bookOldest g (s .book)
   pub append : f .append ≡ bookAppend g (s .book)
   pub count : f .count ≡ length (fitting g room (bookEntries g (s .book)))
@@ -68,17 +68,17 @@ pub record MatchesBook (g : Setup) (s : Bench) (f : Found) (room : ℕ) (out' : 
   pub front : f .whole ≡ false → room < f .used + (g .w + g .p)
 
 -- a list that ran, to the bench s
-pub record Ran (s : Bench) (f : Found) (x' : Lent) (out out' : List ℕ) : Type 0 where
+pub record Ran (s : Bench) (f : FoundLog) (x' : Lent) (out out' : List ℕ) : Type 0 where
   pub lent : x' ≡ lentBy (s .world)
   pub oldest : f .oldest ≡ s .world .log .oldest
   pub append : f .append ≡ s .world .log .append
   pub read : ReadOut x' (s .world .log) (f .count) (f .used) (f .whole) out out'
 
 -- sizes and buffers that SHAPE refuses run nothing; any others run the list, and the promise holds of it
-pub data Runs (g : Setup) (es : List Event) (left : Left) (append-client : Bool) (x x' : Lent) (out out' : List ℕ) : Option Found → Type 0 where
+pub data Runs (g : Setup) (es : List Event) (left : Left) (append-client : Bool) (x x' : Lent) (out out' : List ℕ) : Option FoundLog → Type 0 where
   refused : shapeFits g (length (x .volume)) (length (x .page)) (length (x .hold)) ≡ false → x' ≡ x → out' ≡ out
       → Runs g es left append-client x x' out out' none
-  ran : {f : Found} → shapeFits g (length (x .volume)) (length (x .page)) (length (x .hold)) ≡ true
+  ran : {f : FoundLog} → shapeFits g (length (x .volume)) (length (x .page)) (length (x .hold)) ≡ true
       → Ran (again g left append-client (after g es x)) f x' out out'
       → (NoHeader g (x .volume) → AllClear g (atFirst g x) es → MatchesBook g (again g left append-client (after g es x)) f (length out) out')
       → Runs g es left append-client x x' out out' (some f)

@@ -8,7 +8,7 @@ ghost use Rattle.page.specs.Word.{wordAt};
 ghost use Rattle.engine_call.specs.Outcome.{wordOf};
 ghost use Rattle.bench_flash.specs.Flash.{leftOf};
 ghost use Rattle.bench_flash.specs.Event.{eventOf};
-ghost use Rattle.bench_run.specs.Encoded.{wordFrom, leftFrom, eventFrom, eventSize, complete};
+ghost use Rattle.bench_run.specs.Encoded.{driverFrom, leftFrom, eventFrom, eventSize, holdsEvent};
 use bench_flash::event::Call;
 use bench_flash::event::Completion;
 use bench_flash::event::Event;
@@ -22,8 +22,8 @@ use page::word;
 pub const HEAD_SIZE: usize = 14;
 
 // The driver's word, of an event's options.
-fn word_from(options: u8) -> Driver
-    ensures { λ r. ⌜ wordOf r ≡ wordFrom options ⌝ }
+fn driver_from(options: u8) -> Driver
+    ensures { λ r. ⌜ wordOf r ≡ driverFrom options ⌝ }
 {
     match options % 4 {
         0 => Driver::OK,
@@ -51,7 +51,7 @@ pub fn event(list: &[u8]) -> Event
 {
     let options = list[1];
     let number = word::read_word(8, list, 2);
-    let word = word_from(options);
+    let word = driver_from(options);
     let left = left_from(options);
     let good = options / 4 % 2 == 1;
     match list[0] {
@@ -75,7 +75,7 @@ pub fn event(list: &[u8]) -> Event
 
 // How many bytes the event at the front takes up; 0 where they are not all there.
 pub fn event_size(list: &[u8]) -> usize
-    ensures { λ r. ⌜ r ≡ pick (complete (now (list .entry))) (eventSize (now (list .entry))) 0 ⌝ }
+    ensures { λ r. ⌜ r ≡ pick (holdsEvent (now (list .entry))) (eventSize (now (list .entry))) 0 ⌝ }
 {
     if list.len() < HEAD_SIZE {
         return 0;

@@ -9,9 +9,9 @@ ghost use Rattle.engine_state.specs.Check.{shapeFits};
 ghost use Rattle.engine_call.specs.Outcome.{lend};
 ghost use Rattle.bench_flash.specs.Flash.{leftOf};
 ghost use Rattle.bench.specs.Book.{Book};
-ghost use Rattle.bench_step.specs.Step.{setupFrom, worldOf};
+ghost use Rattle.bench_step.specs.Step.{givenSetup, worldOf};
 ghost use Rattle.bench_run.specs.Run as spec;
-ghost use Rattle.bench_run.specs.Run.{listed, after, again, foundOf, ranOf, Runs};
+ghost use Rattle.bench_run.specs.Run.{listed, after, again, foundLogOf, ranOf, Runs};
 use crate::decode;
 use crate::decode::HEAD_SIZE;
 use crate::entries;
@@ -26,7 +26,7 @@ use engine_state::state::Geometry;
 use page::id::EntryID;
 
 // What a further restart found: O and A, how many entries were read, how many bytes they take up with their lengths, and whether they are all.
-pub struct Found {
+pub struct FoundLog {
     pub oldest: EntryID,
     pub append: EntryID,
     pub count: usize,
@@ -35,7 +35,7 @@ pub struct Found {
 }
 
 pub enum Ran {
-    Found(Found),
+    Found(FoundLog),
     Shape,
 }
 
@@ -48,8 +48,8 @@ fn run_list(
     hold: &mut [u8],
     out: &mut [u8],
 ) -> World
-    requires { ⌜ shapeFits (setupFrom setup) (length (now volume)) (length (now page)) (length (now hold)) ≡ true ⌝ }
-    ensures { λ r. ⌜ (let g = setupFrom setup in let x = lend (now (volume .entry)) (now (page .entry)) (now (hold .entry)) in
+    requires { ⌜ shapeFits (givenSetup setup) (length (now volume)) (length (now page)) (length (now hold)) ≡ true ⌝ }
+    ensures { λ r. ⌜ (let g = givenSetup setup in let x = lend (now (volume .entry)) (now (page .entry)) (now (hold .entry)) in
         worldOf g r (now (page .exit)) (now (hold .exit)) (now (volume .exit))
         ≡ after g (listed (length (now (out .entry))) (now (list .entry))) x .world) ⌝ }
 {
@@ -80,11 +80,11 @@ fn find(
     page: &mut [u8],
     hold: &[u8],
     out: &mut [u8],
-) -> Found
-    requires { ⌜ shapeFits (setupFrom setup) (length (now volume)) (length (now page)) (length (now hold)) ≡ true ⌝ }
-    ensures { λ r. ⌜ ((book : Book) (begun : List ℕ) → length begun ≡ length (now (out .entry)) → let g = setupFrom setup in
+) -> FoundLog
+    requires { ⌜ shapeFits (givenSetup setup) (length (now volume)) (length (now page)) (length (now hold)) ≡ true ⌝ }
+    ensures { λ r. ⌜ ((book : Book) (begun : List ℕ) → length begun ≡ length (now (out .entry)) → let g = givenSetup setup in
         let x = worldOf g world (now (page .entry)) (now (hold .entry)) (now (volume .entry)) in
-        spec.Ran (again g (leftOf left) «append_client» (record { world = x; book = book })) (foundOf r)
+        spec.Ran (again g (leftOf left) «append_client» (record { world = x; book = book })) (foundLogOf r)
         (lend (now (volume .exit)) (now (page .exit)) (now (hold .entry))) begun (now (out .exit))) ⌝ }
 {
     let done = power::restart_again(setup, world, left, true, append_client, volume, page, hold);
@@ -94,7 +94,7 @@ fn find(
     let read = entries::read_out(setup.width, log, volume, page, hold, out);
     let oldest = log.oldest_entry_id;
     let append = log.append_entry_id;
-    Found {
+    FoundLog {
         oldest,
         append,
         count: read.count,

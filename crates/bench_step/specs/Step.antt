@@ -23,8 +23,8 @@ use Rattle.bench_step.specs.declared.world.Delivery.the-variants as d
 use Rattle.bench_step.specs.declared.world.Told as told
 use Rattle.bench_step.specs.declared.world.Step as step
 
-abbrev pub setupFrom : setup.Setup → Setup
-setupFrom s = setupOf (s .width) (s .geometry) (s .circular)
+abbrev pub givenSetup : setup.Setup → Setup
+givenSetup s = setupOf (s .width) (s .geometry) (s .circular)
 
 abbrev pub worldOf : Setup → world.World → List ℕ → List ℕ → List ℕ → World
 worldOf g x page hold volume = record {

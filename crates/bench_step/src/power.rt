@@ -15,7 +15,7 @@ ghost use Rattle.bench_flash.specs.Event as event;
 ghost use Rattle.bench_flash.specs.Event.{restartOf};
 ghost use Rattle.bench.specs.World as bench;
 ghost use Rattle.bench.specs.World.{restartedWorld};
-ghost use Rattle.bench_step.specs.Step.{setupFrom, worldOf, stepOf, endStep, inPlace, restarts};
+ghost use Rattle.bench_step.specs.Step.{givenSetup, worldOf, stepOf, endStep, inPlace, restarts};
 use crate::world;
 use crate::world::Delivery;
 use crate::world::Ended;
@@ -39,7 +39,7 @@ pub(crate) fn end(
     volume: &mut [u8],
     page: &[u8],
 ) -> Step
-    ensures { λ r. ⌜ ((hold : List ℕ) → let g = setupFrom setup in let x = worldOf g world (now (page .entry)) hold (now (volume .entry)) in
+    ensures { λ r. ⌜ ((hold : List ℕ) → let g = givenSetup setup in let x = worldOf g world (now (page .entry)) hold (now (volume .entry)) in
         stepOf g r (x .page) hold (now (volume .exit)) ≡ endStep g x power (leftOf left)) ⌝ }
 {
     let p = setup.geometry.page_size;
@@ -60,7 +60,7 @@ pub(crate) fn end(
 
 // The power goes, unless it is off.
 pub fn cut(setup: Setup, world: World, left: Left, volume: &mut [u8], page: &[u8]) -> Step
-    ensures { λ r. ⌜ ((hold : List ℕ) → let g = setupFrom setup in let x = worldOf g world (now (page .entry)) hold (now (volume .entry)) in
+    ensures { λ r. ⌜ ((hold : List ℕ) → let g = givenSetup setup in let x = worldOf g world (now (page .entry)) hold (now (volume .entry)) in
         stepOf g r (x .page) hold (now (volume .exit)) ≡ bench.step g x (event.cut (leftOf left))) ⌝ }
 {
     if world.power {
@@ -94,7 +94,7 @@ pub fn restart(
     page: &mut [u8],
     hold: &[u8],
 ) -> Step
-    ensures { λ r. ⌜ ((left : flash.Left) → let g = setupFrom setup in
+    ensures { λ r. ⌜ ((left : flash.Left) → let g = givenSetup setup in
         let s = stepOf g off (now (page .entry)) (now (hold .entry)) (now (volume .entry)) in
         stepOf g r (now (page .exit)) (s .world .hold) (s .world .volume) ≡ restarts g s (inPlace left «read_client» «append_client» (s .world))) ⌝ }
 {
@@ -127,8 +127,8 @@ pub(crate) fn restart_with(
     hold: &mut [u8],
     bytes: &[u8],
 ) -> Step
-    requires { ⌜ shapeFits (setupFrom setup) (length (now volume)) (length (now page)) (length (now hold)) ≡ true ⌝ }
-    ensures { λ r. ⌜ (let g = setupFrom setup in let x = worldOf g world (now (page .entry)) (now (hold .entry)) (now (volume .entry)) in
+    requires { ⌜ shapeFits (givenSetup setup) (length (now volume)) (length (now page)) (length (now hold)) ≡ true ⌝ }
+    ensures { λ r. ⌜ (let g = givenSetup setup in let x = worldOf g world (now (page .entry)) (now (hold .entry)) (now (volume .entry)) in
         stepOf g r (now (page .exit)) (now (hold .exit)) (now (volume .exit)) ≡ bench.step g x (event.restart (restartOf restart (now (bytes .entry))))) ⌝ }
 {
     let left = restart.left;
@@ -158,7 +158,7 @@ pub fn restart_again(
     page: &mut [u8],
     hold: &[u8],
 ) -> Step
-    ensures { λ r. ⌜ (let g = setupFrom setup in let x = worldOf g world (now (page .entry)) (now (hold .entry)) (now (volume .entry)) in
+    ensures { λ r. ⌜ (let g = givenSetup setup in let x = worldOf g world (now (page .entry)) (now (hold .entry)) (now (volume .entry)) in
         stepOf g r (now (page .exit)) (x .hold) (now (volume .exit))
         ≡ bench.step g x (event.restart (inPlace (leftOf left) «read_client» «append_client» x))) ⌝ }
 {

@@ -7,7 +7,7 @@ ghost use Rattle.bench_flash.specs.Flash.{leftOf};
 ghost use Rattle.bench_flash.specs.Event as event;
 ghost use Rattle.bench_flash.specs.Event.{callOf, completionOf, eventOf};
 ghost use Rattle.bench.specs.World as bench;
-ghost use Rattle.bench_step.specs.Step.{setupFrom, worldOf, stepOf, comes, eventBuffer};
+ghost use Rattle.bench_step.specs.Step.{givenSetup, worldOf, stepOf, comes, eventBuffer};
 use crate::calls;
 use crate::power;
 use crate::world;
@@ -32,7 +32,7 @@ pub fn called(
     bytes: &[u8],
     out: &mut [u8],
 ) -> Step
-    ensures { λ r. ⌜ (let g = setupFrom setup in let x = worldOf g world (now (page .entry)) (now (hold .entry)) (now (volume .entry)) in
+    ensures { λ r. ⌜ (let g = givenSetup setup in let x = worldOf g world (now (page .entry)) (now (hold .entry)) (now (volume .entry)) in
         let e = event.call (callOf call (now (bytes .entry)) (length (now (out .entry)))) in
         (stepOf g r (now (page .exit)) (now (hold .exit)) (x .volume) ≡ bench.step g x e) × (now (out .exit) ≡ eventBuffer x e (now (out .entry)))) ⌝ }
 {
@@ -54,7 +54,7 @@ pub fn complete(
     page: &mut [u8],
     hold: &[u8],
 ) -> Step
-    ensures { λ r. ⌜ (let g = setupFrom setup in let s = stepOf g over (now (page .entry)) (now (hold .entry)) (now (volume .entry)) in
+    ensures { λ r. ⌜ (let g = givenSetup setup in let s = stepOf g over (now (page .entry)) (now (hold .entry)) (now (volume .entry)) in
         stepOf g r (now (page .exit)) (s .world .hold) (s .world .volume) ≡ comes g s (completionOf completion)) ⌝ }
 {
     let world = over.world;
@@ -76,7 +76,7 @@ pub fn completed(
     page: &mut [u8],
     hold: &[u8],
 ) -> Step
-    ensures { λ r. ⌜ (let g = setupFrom setup in let x = worldOf g world (now (page .entry)) (now (hold .entry)) (now (volume .entry)) in
+    ensures { λ r. ⌜ (let g = givenSetup setup in let x = worldOf g world (now (page .entry)) (now (hold .entry)) (now (volume .entry)) in
         stepOf g r (now (page .exit)) (x .hold) (now (volume .exit)) ≡ bench.step g x (event.completion (completionOf completion) (leftOf left))) ⌝ }
 {
     let nothing = world::undelivered(world);
@@ -107,8 +107,8 @@ pub fn step(
     bytes: &[u8],
     out: &mut [u8],
 ) -> Step
-    requires { ⌜ shapeFits (setupFrom setup) (length (now volume)) (length (now page)) (length (now hold)) ≡ true ⌝ }
-    ensures { λ r. ⌜ (let g = setupFrom setup in let x = worldOf g world (now (page .entry)) (now (hold .entry)) (now (volume .entry)) in
+    requires { ⌜ shapeFits (givenSetup setup) (length (now volume)) (length (now page)) (length (now hold)) ≡ true ⌝ }
+    ensures { λ r. ⌜ (let g = givenSetup setup in let x = worldOf g world (now (page .entry)) (now (hold .entry)) (now (volume .entry)) in
         let e = eventOf event (now (bytes .entry)) (length (now (out .entry))) in
         (stepOf g r (now (page .exit)) (now (hold .exit)) (now (volume .exit)) ≡ bench.step g x e)
         × (now (out .exit) ≡ eventBuffer x e (now (out .entry)))) ⌝ }

@@ -11,7 +11,7 @@ ghost use Rattle.engine_restart.specs.Restart.{atRest};
 ghost use Rattle.engine_call.specs.Outcome.{doneOf, wordOf};
 ghost use Rattle.bench_flash.specs.Flash.{no-operation};
 ghost use Rattle.bench.specs.World as bench;
-ghost use Rattle.bench_step.specs.Step.{setupFrom, worldOf, endedOf, answerOf, stepOf};
+ghost use Rattle.bench_step.specs.Step.{givenSetup, worldOf, endedOf, answerOf, stepOf};
 use bench_flash::operation;
 use bench_flash::operation::Left;
 use bench_flash::operation::Operation;
@@ -67,7 +67,7 @@ pub struct Step {
 
 // Where a list begins: the power is off, and the log is any; this one has the setup.
 pub fn begin(setup: Setup) -> World
-    ensures { λ r. ⌜ ((page hold volume : List ℕ) → let g = setupFrom setup in
+    ensures { λ r. ⌜ ((page hold volume : List ℕ) → let g = givenSetup setup in
         worldOf g r page hold volume ≡ bench.before (atRest g false false 0 0) volume page hold) ⌝ }
 {
     let geometry = setup.geometry;
@@ -96,7 +96,7 @@ pub(crate) fn delivered(
     given: Outcome,
     word: Driver,
 ) -> Step
-    ensures { λ r. ⌜ ((page hold volume page' hold' : List ℕ) → let g = setupFrom setup in stepOf g r page' hold' volume
+    ensures { λ r. ⌜ ((page hold volume page' hold' : List ℕ) → let g = givenSetup setup in stepOf g r page' hold' volume
         ≡ bench.delivered (g .first) (worldOf g world page hold volume) (endedOf ended) (doneOf (g .w) given page' hold') (wordOf word)) ⌝ }
 {
     let former = world.operation;

@@ -6,7 +6,7 @@ ghost use Prim.Native.Nat.{_≤_};
 ghost use lib.ListN.{length};
 use bench_flash::operation::Left;
 use bench_run::run;
-use bench_run::run::Found;
+use bench_run::run::FoundLog;
 use bench_run::run::Ran;
 use engine_state::state::Geometry;
 use libc::STDIN_FILENO;
@@ -28,7 +28,7 @@ fn reached(whole: bool, line: &mut [u8], at: usize) -> usize {
     trace::put(line, at, b" front")
 }
 
-fn found(found: Found, entries: &[u8], line: &mut [u8]) {
+fn found(found: FoundLog, entries: &[u8], line: &mut [u8]) {
     let start = trace::pair(line, b"found", found.oldest.0, found.append.0);
     let middle = trace::number(line, start, found.count);
     let last = reached(found.whole, line, middle);

@@ -13,7 +13,7 @@ number c = sym (c .read-word .ensures)
 
 returns : tie.Need-returns
 unfolding eventFrom
-returns c bytes room = rw (c .match .keys1, number (c .before .before .before .before), c .before .before .before .word-from .ensures)
+returns c bytes room = rw (c .match .keys1, number (c .before .before .before .before), c .before .before .before .driver-from .ensures)
 
 returns-2 : tie.Need-returns-2
 unfolding eventFrom
@@ -25,11 +25,11 @@ returns-3 c bytes room = rw (c .match .keys3, number (c .before .before .before 
 
 returns-4 : tie.Need-returns-4
 unfolding eventFrom
-returns-4 c bytes room = rw (c .match .keys4, c .before .before .before .word-from .ensures)
+returns-4 c bytes room = rw (c .match .keys4, c .before .before .before .driver-from .ensures)
 
 returns-5 : tie.Need-returns-5
 unfolding eventFrom
-returns-5 c bytes room = rw (c .match .keys5, c .before .before .before .word-from .ensures)
+returns-5 c bytes room = rw (c .match .keys5, c .before .before .before .driver-from .ensures)
 
 returns-6 : tie.Need-returns-6
 unfolding eventFrom
@@ -41,7 +41,7 @@ returns-7 c bytes room = rw (c .match .keys7, c .before .before .left-from .ensu
 
 returns-8 : tie.Need-returns-8
 unfolding eventFrom
-returns-8 c bytes room = rw (c .match .keys8, c .before .before .left-from .ensures, c .before .before .before .word-from .ensures)
+returns-8 c bytes room = rw (c .match .keys8, c .before .before .left-from .ensures, c .before .before .before .driver-from .ensures)
 
 returns-9 : tie.Need-returns-9
 unfolding eventFrom

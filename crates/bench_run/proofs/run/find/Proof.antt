@@ -2,7 +2,7 @@
 use mathlib.Core.Path.{sym, ap, _∙_}
 use Rattle.engine_state.proofs.Checks.{shape-fits}
 use Rattle.bench.specs.World.{World, Step}
-use Rattle.bench_step.specs.Step.{setupFrom, worldOf}
+use Rattle.bench_step.specs.Step.{givenSetup, worldOf}
 use Rattle.bench_run.proofs.Again.{zeros-here, ran-again}
 use borrow.Author.Needs.{needs}
 use Rattle.bench_run.proofs.run.find.Statement.{statement}
@@ -12,7 +12,7 @@ read-out-requires : tie.Need-read-out-requires
 read-out-requires c κs =
     let filled = c .before .before .before .before .before in
     let s = filled .before .before .before .before .before .before .before .before .before .before .before .before .before .before .before in
-    (shape-fits (setupFrom (s .args .setup)) _ _ _ (s .pre) .sizes .page .width, zeros-here _ (filled .fill .ensures))
+    (shape-fits (givenSetup (s .args .setup)) _ _ _ (s .pre) .sizes .page .width, zeros-here _ (filled .fill .ensures))
 
 returns : tie.Need-returns
 returns c book begun long =
@@ -20,7 +20,7 @@ returns c book begun long =
     let r = filled .before .before .before .before .before .before .before .before .restart-again in
     let s = filled .before .before .before .before .before .before .before .before .before .before .before .before .before .before .before in
     let after = r .last .1 .1 .1 .1 .1 in
-    let y : World = worldOf (setupFrom (s .args .setup)) (r .result .world) (after .1 .0) (s .args .hold .now) (after .0) in
+    let y : World = worldOf (givenSetup (s .args .setup)) (r .result .world) (after .1 .0) (s .args .hold .now) (after .0) in
     ran-again y (ap (λ (d : Step). d .world) (r .ensures)) (filled .fill .kept .0 ∙ sym long) (c .before .before .before .before .read-out .ensures)
 
 pub find-spec : {M : Type 1} → statement M

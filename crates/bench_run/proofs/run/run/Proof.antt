@@ -9,7 +9,7 @@ use Rattle.engine_call.specs.Outcome.{Lent, lend}
 use Rattle.bench_flash.specs.Flash.{leftOf}
 use Rattle.bench.specs.World.{World}
 use Rattle.bench.specs.Promise.{Bench}
-use Rattle.bench_run.specs.Run.{listed, after, again, foundOf, Ran, refused}
+use Rattle.bench_run.specs.Run.{listed, after, again, foundLogOf, Ran, refused}
 use Rattle.bench_run.proofs.Again.{list-runs}
 use borrow.Author.Needs.{needs}
 use Rattle.bench_run.proofs.run.run.Statement.{statement}
@@ -62,7 +62,7 @@ returns-2 c =
     let last = find .last .1 .1 .1 .1 in
     let after : Lent = lend (last .0) (last .1 .0) (list .run-list .last .1 .1 .1 .1 .0) in
     let Ends : World → Type 0 = λ y. Ran (again (setup s) (leftOf (s .args .left)) (s .args .append-client) (record { world = y; book = ended s .book }))
-    (foundOf (find .result)) after (s .args .out .now) (last .1 .1 .1 .0) in
+    (foundLogOf (find .result)) after (s .args .out .now) (last .1 .1 .1 .0) in
     let ran = subst Ends is (find .ensures (ended s .book) (s .args .out .now) (sym (kept .1 .1 .1 .0))) in
     list-runs (lent s) (fits (list .before .before .before .before .before)) ran (find .kept .1 .1 .1 .1 .0 ∙ kept .0)
     (ap (λ (y : World). length (y .page)) (sym is) ∙ kept .1 .0) (ap (λ (y : World). length (y .hold)) (sym is) ∙ kept .1 .1 .0)

@@ -4,7 +4,7 @@ use native.Mathlib.Omega.{arith}
 use lib.ListN.{length}
 use borrow.Rule.Slice.PartAt.{part-to-end}
 use Rattle.engine_call.specs.Outcome.{lend}
-use Rattle.bench_step.specs.Step.{setupFrom, worldOf, stepOf}
+use Rattle.bench_step.specs.Step.{givenSetup, worldOf, stepOf}
 use Rattle.bench_run.proofs.Lists.{size-none, size-found}
 use Rattle.bench_run.proofs.Running.{Upto, upto-starts, upto-fits, upto-goes, upto-ends}
 use borrow.Author.Needs.{needs}
@@ -13,7 +13,7 @@ use Rattle.bench_run.proofs.run.run_list.Tie as tie
 
 abbrev Inv-loop : tie.InvT-loop
 Inv-loop setup list volume₀ page₀ hold₀ out₀ world₀ at₀ volume page hold out world at =
-    Upto (setupFrom setup) list (lend volume₀ page₀ hold₀) (length out₀) (worldOf (setupFrom setup) world page hold volume) out at
+    Upto (givenSetup setup) list (lend volume₀ page₀ hold₀) (length out₀) (worldOf (givenSetup setup) world page hold volume) out at
 
 abbrev μ-loop : tie.MeasureT-loop
 μ-loop setup list volume₀ page₀ hold₀ out₀ world₀ at₀ volume page hold out world at = length list - at
@@ -72,7 +72,7 @@ loop-again c =
     let s = tested .before .before .before .before .before .before .before .before .before .before in
     let kept = d .kept .1 .1 .1 in
     let after = d .last .1 .1 .1 in
-    upto-goes (l .inv) (stepOf (setupFrom (s .args .setup)) (d .result) (after .1 .0) (after .1 .1 .0) (after .0)) _ (part-to-end (s .args .list .now) (l .at))
+    upto-goes (l .inv) (stepOf (givenSetup (s .args .setup)) (d .result) (after .1 .0) (after .1 .1 .0) (after .0)) _ (part-to-end (s .args .list .now) (l .at))
     (size-found _ _ (tested .before .event-size .ensures) (tested .if1 .left)) (named .event .ensures _ _) (d .ensures .0)
     (kept .0) (kept .1 .0) (kept .1 .1 .0) (kept .1 .1 .1 .1 .0)
 

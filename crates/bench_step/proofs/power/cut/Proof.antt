@@ -6,14 +6,14 @@ use Rattle.engine_state.specs.Log.{Setup}
 use Rattle.bench_flash.specs.Flash.{leftOf}
 use Rattle.bench_flash.specs.Event as events
 use Rattle.bench.specs.World.{World}
-use Rattle.bench_step.specs.Step.{setupFrom, worldOf}
+use Rattle.bench_step.specs.Step.{givenSetup, worldOf}
 use Rattle.bench_step.proofs.Steps.{on, off}
 use borrow.Author.Needs.{needs}
 use Rattle.bench_step.proofs.power.cut.Statement.{statement}
 use Rattle.bench_step.proofs.power.cut.Tie as tie
 
 abbrev setup : tie.Start → Setup
-setup s = setupFrom (s .args .setup)
+setup s = givenSetup (s .args .setup)
 
 abbrev world : tie.Start → List ℕ → World
 world s hold = worldOf (setup s) (s .args .world) (s .args .page .now) hold (s .args .volume .now)

@@ -1,5 +1,5 @@
 -- `bench_step::power::end` meets its contract.
-use Rattle.bench_step.specs.Step.{setupFrom}
+use Rattle.bench_step.specs.Step.{givenSetup}
 use borrow.Author.Needs.{needs}
 use Rattle.bench_step.proofs.power.end.Statement.{statement}
 use Rattle.bench_step.proofs.power.end.Tie as tie
@@ -7,18 +7,18 @@ use Rattle.bench_step.proofs.power.end.Tie as tie
 returns : tie.Need-returns
 returns c hold =
     let start = c .before .before .before .before .before .before in
-    rw (c .before .enum-told .given .1) (c .at-rest .ensures (setupFrom (start .args .setup)) _ hold _)
+    rw (c .before .enum-told .given .1) (c .at-rest .ensures (givenSetup (start .args .setup)) _ hold _)
 
 returns-2 : tie.Need-returns-2
 returns-2 c hold =
     let k = c .before .before .before .before .before .before in
-    let g = setupFrom (k .before .before .before .before .before .args .setup) in
+    let g = givenSetup (k .before .before .before .before .before .args .setup) in
     rw (k .operation .given .1, c .before .before .before .end-write .ensures) (c .at-rest2 .ensures g _ hold _)
 
 returns-3 : tie.Need-returns-3
 returns-3 c hold =
     let k = c .before .before .before .before .before .before in
-    let g = setupFrom (k .before .before .before .before .before .args .setup) in
+    let g = givenSetup (k .before .before .before .before .before .args .setup) in
     rw (k .operation2 .given .1, c .before .before .before .end-erase .ensures) (c .at-rest3 .ensures g _ hold _)
 
 pub end-spec : {M : Type 1} → statement M

@@ -5,14 +5,14 @@ use Rattle.engine_call.specs.Outcome.{Lent, lend}
 use Rattle.engine_restart.specs.declared.restart.Restarted as code
 use Rattle.engine_restart.specs.Restart.{restartDoneOf}
 use Rattle.engine_restart.specs.Restart as recovery
-use Rattle.bench_step.specs.Step.{setupFrom}
+use Rattle.bench_step.specs.Step.{givenSetup}
 use Rattle.bench_step.proofs.Steps.{refused-keeps}
 use borrow.Author.Needs.{needs}
 use Rattle.bench_step.proofs.power.restart.Statement.{statement}
 use Rattle.bench_step.proofs.power.restart.Tie as tie
 
 abbrev setup : tie.Start → Setup
-setup s = setupFrom (s .args .setup)
+setup s = givenSetup (s .args .setup)
 
 abbrev lent : tie.Start → Lent
 lent s = lend (s .args .volume .now) (s .args .page .now) (s .args .hold .now)

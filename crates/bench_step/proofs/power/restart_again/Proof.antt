@@ -2,14 +2,14 @@
 use Rattle.engine_state.specs.Log.{Setup}
 use Rattle.bench_flash.specs.Flash.{leftOf}
 use Rattle.bench.specs.World.{World}
-use Rattle.bench_step.specs.Step.{setupFrom, worldOf, stepOf, inPlace}
+use Rattle.bench_step.specs.Step.{givenSetup, worldOf, stepOf, inPlace}
 use Rattle.bench_step.proofs.Steps.{cut-first}
 use borrow.Author.Needs.{needs}
 use Rattle.bench_step.proofs.power.restart_again.Statement.{statement}
 use Rattle.bench_step.proofs.power.restart_again.Tie as tie
 
 abbrev setup : tie.Start → Setup
-setup s = setupFrom (s .args .setup)
+setup s = givenSetup (s .args .setup)
 
 abbrev world : tie.Start → World
 world s = worldOf (setup s) (s .args .world) (s .args .page .now) (s .args .hold .now) (s .args .volume .now)

@@ -12,14 +12,14 @@ use Rattle.engine_restart.specs.Restart as recovery
 use Rattle.bench_flash.specs.Event as events
 use Rattle.bench_flash.specs.Event.{Restart, restartOf}
 use Rattle.bench.specs.World.{World, Step, step}
-use Rattle.bench_step.specs.Step.{setupFrom, worldOf, stepOf, restarts}
+use Rattle.bench_step.specs.Step.{givenSetup, worldOf, stepOf, restarts}
 use Rattle.bench_step.proofs.Steps.{cut-first, starts-anew, unlike, alike}
 use borrow.Author.Needs.{needs}
 use Rattle.bench_step.proofs.power.restart_with.Statement.{statement}
 use Rattle.bench_step.proofs.power.restart_with.Tie as tie
 
 abbrev setup : tie.Start → Setup
-setup s = setupFrom (s .args .setup)
+setup s = givenSetup (s .args .setup)
 
 abbrev world : tie.Start → World
 world s = worldOf (setup s) (s .args .world) (s .args .page .now) (s .args .hold .now) (s .args .volume .now)

@@ -7,14 +7,14 @@ use Rattle.engine_state.specs.Log.{Setup}
 use Rattle.bench_flash.specs.Event as events
 use Rattle.bench_flash.specs.Event.{callOf}
 use Rattle.bench.specs.World.{World}
-use Rattle.bench_step.specs.Step.{setupFrom, worldOf}
+use Rattle.bench_step.specs.Step.{givenSetup, worldOf}
 use Rattle.bench_step.proofs.Steps.{on, off, word-alone}
 use borrow.Author.Needs.{needs}
 use Rattle.bench_step.proofs.step.called.Statement.{statement}
 use Rattle.bench_step.proofs.step.called.Tie as tie
 
 abbrev setup : tie.Start → Setup
-setup s = setupFrom (s .args .setup)
+setup s = givenSetup (s .args .setup)
 
 abbrev world : tie.Start → World
 world s = worldOf (setup s) (s .args .world) (s .args .page .now) (s .args .hold .now) (s .args .volume .now)

@@ -9,14 +9,14 @@ use Rattle.bench_flash.specs.Event as events
 use Rattle.bench_flash.specs.Event.{completionOf}
 use Rattle.engine_laws.specs.Call.{unlessDue}
 use Rattle.bench.specs.World.{World, Step, ends, completionStep, step}
-use Rattle.bench_step.specs.Step.{setupFrom, worldOf, stepOf, comes}
+use Rattle.bench_step.specs.Step.{givenSetup, worldOf, stepOf, comes}
 use Rattle.bench_step.proofs.Steps.{on, off, comes-due}
 use borrow.Author.Needs.{needs}
 use Rattle.bench_step.proofs.step.completed.Statement.{statement}
 use Rattle.bench_step.proofs.step.completed.Tie as tie
 
 abbrev setup : tie.Start → Setup
-setup s = setupFrom (s .args .setup)
+setup s = givenSetup (s .args .setup)
 
 abbrev world : tie.Start → World
 world s = worldOf (setup s) (s .args .world) (s .args .page .now) (s .args .hold .now) (s .args .volume .now)
