@@ -21,7 +21,7 @@ use Rattle.engine_call.specs.Outcome.{Lent, Done, firstOf, moved}
 use Rattle.engine_call.specs.Gate.{gate}
 use Rattle.engine_read.specs.Read.{Found, entry, no-entry, foundLength, found, readDone, readRuns, read, readBuffer}
 use Rattle.engine_read.specs.Deferred.{deferredRuns, deferred}
-use Rattle.bench.specs.Promise.{ReadsOn, ends, goes}
+use Rattle.bench.specs.Promise.{ReadsOn, on-ends, on-goes}
 use Rattle.bench.proofs.Gates.{fits-shape, passes}
 
 -- the log in the run: its state, its read ID and its kept length vary
@@ -120,7 +120,7 @@ module _ {l : Log} {x : Lent} (q : Reader l x) where
 
     -- where no entry is found the run ends
     pub reads-end : foundFrom l x r kept ≡ no-entry FAIL → ReadsFrom l x r kept []
-    reads-end none-there = ends {l = logAt l Idle r kept} (λ bytes m. rw (reads-found (length bytes) m, none-there))
+    reads-end none-there = on-ends {l = logAt l Idle r kept} (λ bytes m. rw (reads-found (length bytes) m, none-there))
 
     -- the entry that is found is read, and reading goes on past it
     pub reads-entry : {id : ℕ} {e : List ℕ} {es : List (List ℕ)} → foundFrom l x r kept ≡ entry id (length e)
@@ -128,7 +128,7 @@ module _ {l : Log} {x : Lent} (q : Reader l x) where
         → ReadsFrom l x (id + l .setup .w + length e) (length e) es → ReadsFrom l x r kept (e ∷ es)
     unfolding readBuffer found
     reads-entry {id} {e} {es} there bytes-are next on =
-        goes {l = logAt l Idle r kept} {next = logAt l Read (id + l .setup .w + length e) (length e)} {e = e}
+        on-goes {l = logAt l Idle r kept} {next = logAt l Read (id + l .setup .w + length e) (length e)} {e = e}
         (λ bytes m.
         let one = reads-found (length bytes) m in
         record {

@@ -46,37 +46,37 @@ module _ {x : World} {b : Book} (bk : Books (x .log .setup) (x .volume) b) (r : 
   abbrev o : ℕ
   o = r .oldest .page
 
-  -- the page that is lost, and O after it is
-  abbrev lost : ℕ
-  lost = overwrittenPage (x .log)
+  -- the page that the flush overwrites, and O after it
+  abbrev overwrites : ℕ
+  overwrites = overwrittenPage (x .log)
 
   abbrev oldest : ℕ
-  oldest = movedOldest p lost (x .log .oldest)
+  oldest = movedOldest p overwrites (x .log .oldest)
 
   f : Facts (g .w) p n
   f = facts (bk .sizes)
 
   -- it is the one that the open page overwrites
-  lost-is : lost ≡ overwritten (g .w) p (n * p) k
+  overwrites-is : overwrites ≡ overwritten (g .w) p (n * p) k
   unfolding overwrittenPage
-  lost-is = ap (overwritten (g .w) p (n * p)) (last-open bk (r .buffer))
+  overwrites-is = ap (overwritten (g .w) p (n * p)) (last-open bk (r .buffer))
 
   -- O's page is o
   here : x .log .oldest / p ≡ o
   here = oldest-of (bk .sizes) (r .oldest)
 
   -- O stays where its page is another
-  stays : (o ≡ lost → ⊥) → k < o + n → Room g oldest (b .slots) (b .open-page)
+  stays : (o ≡ overwrites → ⊥) → k < o + n → Room g oldest (b .slots) (b .open-page)
   unfolding movedOldest
   stays d room =
-      let same : oldest ≡ x .log .oldest = rw (ne-eqb (x .log .oldest / p) lost (λ (e : x .log .oldest / p ≡ lost). d (sym here ∙ e))) in
+      let same : oldest ≡ x .log .oldest = rw (ne-eqb (x .log .oldest / p) overwrites (λ (e : x .log .oldest / p ≡ overwrites). d (sym here ∙ e))) in
       record { kept = record { page = o; first = same ∙ r .oldest .first; near = r .oldest .near; live = r .oldest .live }; room = room }
 
-  -- O moves by a page where its page is lost
-  moves : SomeEntry (b .open-page) → o + n ≡ k → o ≡ lost → Room g oldest (b .slots) (b .open-page)
+  -- O moves by a page where its page is overwritten
+  moves : SomeEntry (b .open-page) → o + n ≡ k → o ≡ overwrites → Room g oldest (b .slots) (b .open-page)
   unfolding movedOldest
   moves some-entry lap e =
-      let next : oldest ≡ x .log .oldest + p = rw (eq-eqb (x .log .oldest / p) lost (here ∙ e)) in
+      let next : oldest ≡ x .log .oldest + p = rw (eq-eqb (x .log .oldest / p) overwrites (here ∙ e)) in
       record {
         kept = record {
           page = o + 1;
@@ -96,16 +96,16 @@ module _ {x : World} {b : Book} (bk : Books (x .log .setup) (x .volume) b) (r : 
   pub flushed-oldest : SomeEntry (b .open-page) → Room g oldest (b .slots) (b .open-page)
   flushed-oldest some-entry = first-lap (decLt k n)
     where
-      on-lap : lost ≡ k - n → n ≤ k → Dec (o + n ≡ k) → Room g oldest (b .slots) (b .open-page)
+      on-lap : overwrites ≡ k - n → n ≤ k → Dec (o + n ≡ k) → Room g oldest (b .slots) (b .open-page)
       on-lap e h (yes l) = moves some-entry l (omega (arith, e))
-      on-lap e h (no d) = stays (λ (z : o ≡ lost). d (omega (arith, e, h, z))) (omega (arith, r .oldest .near .1, d))
+      on-lap e h (no d) = stays (λ (z : o ≡ overwrites). d (omega (arith, e, h, z))) (omega (arith, r .oldest .near .1, d))
 
       first-lap : Dec (k < n) → Room g oldest (b .slots) (b .open-page)
       first-lap (yes h) =
           let s = state-fits (x .log) (r .fits) in
-          stays (λ (z : o ≡ lost). overwritten-none (bk .sizes) k h (x .log .oldest) (omega (arith, s .ordered, s .limited)) (here ∙ z ∙ lost-is))
+          stays (λ (z : o ≡ overwrites). overwritten-none (bk .sizes) k h (x .log .oldest) (omega (arith, s .ordered, s .limited)) (here ∙ z ∙ overwrites-is))
           (omega arith)
-      first-lap (no h) = on-lap (lost-is ∙ overwritten-lap (bk .sizes) k (allowed-first bk) (omega (arith, h))) (omega (arith, h)) (ℕ-discrete (o + n) k)
+      first-lap (no h) = on-lap (overwrites-is ∙ overwritten-lap (bk .sizes) k (allowed-first bk) (omega (arith, h))) (omega (arith, h)) (ℕ-discrete (o + n) k)
 
   -- a flush in a state, with another kept length and hold buffer, of an open page that has an entry
   module _ (s : State) (kept : ℕ) (hold : List ℕ) (long : length hold ≡ p) (some-entry : SomeEntry (b .open-page)) where

@@ -62,10 +62,10 @@ pub record ReadEntry (d : Done) (bytes' : List ℕ) (next : Log) (e : List ℕ) 
 
 -- whatever the buffers, reading on from a log gives these entries, each reported with its length, and then FAIL
 pub data ReadsOn (x : Lent) : Log → List (List ℕ) → Type 0 where
-  ends : {l : Log}
+  on-ends : {l : Log}
       → ((bytes : List ℕ) → l .setup .p ≤ length bytes → read l x (length bytes) (l .setup .p) .outcome .answer ≡ FAIL)
       → ReadsOn x l []
-  goes : {l next : Log} {e : List ℕ} {es : List (List ℕ)}
+  on-goes : {l next : Log} {e : List ℕ} {es : List (List ℕ)}
       → ((bytes : List ℕ) → l .setup .p ≤ length bytes → ReadEntry (read l x (length bytes) (l .setup .p)) (readBuffer l x bytes (l .setup .p)) next e)
       → deferred next x .outcome .report ≡ read-done (length e) OK
       → ReadsOn x (deferred next x .outcome .log) es

@@ -24,7 +24,7 @@ use Rattle.bench.proofs.Theorem.{further}
 use Rattle.bench_step.specs.Step.{inPlace, restarts}
 use Rattle.bench_step.proofs.Steps.{cut-first}
 use Rattle.bench_run.specs.Entries.{ReadsOut, ReadOut, laid}
-use Rattle.bench_run.specs.Run.{unstarted, after, again, FoundLog, MatchesBook, Ran, Runs, ran}
+use Rattle.bench_run.specs.Run.{unstarted, after, again, FoundLog, MatchesBook, Ran, Runs, list-ran}
 use Rattle.bench_run.proofs.ReadLink.{read-fitting}
 
 -- bytes that are filled with zeros
@@ -115,7 +115,7 @@ list-runs {g} {es} {left} {append-client} x {f} {x'} {out} {out'} fit r v p h =
     let end : Bench = again g left append-client s in
     let whole : length (end .world .volume) ≡ length (x .volume) = ap (λ (k : Lent). length (k .volume)) (sym (r .lent)) ∙ v in
     let a = again-answers g append-client left (s .world) (rw (whole, p, h) fit) in
-    ran fit r
+    list-ran fit r
     (λ no-header clear.
     subst (λ (k : Setup). Finds k end → MatchesBook k end f (length out) out') (a .setup) (λ q. matches end q (a .client) r)
     (further g (unstarted g) (x .volume) (x .page) (x .hold) no-header es clear (inPlace left true append-client (s .world)) (a .ok)))

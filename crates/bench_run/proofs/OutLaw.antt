@@ -16,7 +16,8 @@ use Rattle.page.specs.Answered.{FAIL}
 use Rattle.engine_state.specs.declared.state.Log as code
 use Rattle.engine_state.specs.Log.{logOf}
 use Rattle.engine_call.specs.Outcome.{Lent}
-use Rattle.bench_run.specs.Entries.{entryRead, ReadsOut, full, ends, goes, laid, next-entry, next-ends, next-full, NextRead, no-room, no-more, reads}
+use Rattle.bench_run.specs.Entries.{entryRead, ReadsOut, out-full, out-ends, out-goes, laid}
+use Rattle.bench_run.specs.Entries.{next-entry, next-ends, next-full, NextRead, no-room, no-more, reads}
 use Rattle.bench_run.specs.Entries.{ReadOut}
 use Rattle.bench_run.proofs.NextLaw.{rest-lent, rest-back, given}
 
@@ -100,7 +101,7 @@ module _ {w : ℕ} {x : Lent} where
           leaves = leaves;
           onward = λ es whole r.
               let k : n - (at + (w + size)) ≡ length rest - (w + length e) = omega (arith, long, rest-room) in
-              let q = subst (λ m. ReadsOut x (logOf w current) m (e ∷ es) whole) rest-room (goes h ok (rw (k, log) at r)) in
+              let q = subst (λ m. ReadsOut x (logOf w current) m (e ∷ es) whole) rest-room (out-goes h ok (rw (k, log) at r)) in
               rw (append-assoc (s .entries) (e ∷ []) es) (s .onward (e ∷ es) whole q);
         }
 
@@ -120,8 +121,8 @@ module _ {w : ℕ} {x : Lent} where
 
     -- for want of room, or by an answer
     pub sofar-full : NextRead x (logOf w current) (rest s) part' next-full → ReadOut x (logOf w l) count at false begun (putMid at (length out - at) out part')
-    sofar-full (no-room h e) = sofar-ends (full h) e
+    sofar-full (no-room h e) = sofar-ends (out-full h) e
 
     pub sofar-stops : {a : ℕ} {whole : Bool} → whole ≡ eqb a FAIL → NextRead x (logOf w current) (rest s) part' (next-ends a)
         → ReadOut x (logOf w l) count at whole begun (putMid at (length out - at) out part')
-    sofar-stops t (no-more h e n q) = sofar-ends (rw (t, e) (ends h (λ k. n (e ∙ k)))) q
+    sofar-stops t (no-more h e n q) = sofar-ends (rw (t, e) (out-ends h (λ k. n (e ∙ k)))) q

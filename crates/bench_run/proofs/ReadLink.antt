@@ -17,9 +17,8 @@ use Rattle.engine_read.specs.Read.{read, readBuffer}
 use Rattle.engine_read.specs.Deferred.{deferred}
 use Rattle.engine_laws.proofs.Calls.{by-pick, by-call}
 use Rattle.engine_laws.proofs.Leaves.{call-leaves}
-use Rattle.bench.specs.Promise as promise
-use Rattle.bench.specs.Promise.{ReadsOn}
-use Rattle.bench_run.specs.Entries.{reading, entryRead, afterwards, Roomy, ReadsOut, full, ends, goes, fitting}
+use Rattle.bench.specs.Promise.{ReadsOn, on-ends, on-goes}
+use Rattle.bench_run.specs.Entries.{reading, entryRead, afterwards, Roomy, ReadsOut, out-full, out-ends, out-goes, fitting}
 
 -- what is read into `room` bytes is what fits of the entries that are promised: all of them, where it goes to FAIL, and else as many as there is room for
 pub record Fits (s : Setup) (room : ℕ) (es fs : List (List ℕ)) (whole : Bool) : Type 0 where
@@ -83,15 +82,15 @@ reported l x {n} =
 
 pub read-fitting : {x : Lent} {l : Log} {es fs : List (List ℕ)} {room : ℕ} {whole : Bool} → ReadsOn x l es → ReadsOut x l room fs whole
     → Fits (l .setup) room es fs whole
-read-fitting {x} {l} {es} (promise.ends f) (full {room = room} h) = fits-full (l .setup) room [] h
-read-fitting {x} {l} (promise.ends f) (ends {room = room} h n) =
+read-fitting {x} {l} {es} (on-ends f) (out-full {room = room} h) = fits-full (l .setup) room [] h
+read-fitting {x} {l} (on-ends f) (out-ends {room = room} h n) =
     fits-ends (l .setup) room (ap (λ a. eqb a FAIL) (ap (λ d. d .outcome .answer) (sym (reading-is x l room h)) ∙ f (zeros x l room h) (long x l room h)))
-read-fitting {x} {l} (promise.ends f) (goes {room = room} h ok r) =
+read-fitting {x} {l} (on-ends f) (out-goes {room = room} h ok r) =
     absurd (omega (arith, ok, ap (λ d. d .outcome .answer) (reading-is x l room h), f (zeros x l room h) (long x l room h)))
-read-fitting {x} {l} (promise.goes {e = e} {es = es} f d r) (full {room = room} h) = fits-full (l .setup) room (e ∷ es) h
-read-fitting {x} {l} (promise.goes f d r) (ends {room = room} h n) =
+read-fitting {x} {l} (on-goes {e = e} {es = es} f d r) (out-full {room = room} h) = fits-full (l .setup) room (e ∷ es) h
+read-fitting {x} {l} (on-goes f d r) (out-ends {room = room} h n) =
     absurd (n (ap (λ d. d .outcome .answer) (sym (reading-is x l room h)) ∙ f (zeros x l room h) (long x l room h) .answer))
-read-fitting {x} {l} (promise.goes {next = next} {e = e} {es = es} f d r) (goes {room = room} {es = fs} {whole = whole} h ok q) =
+read-fitting {x} {l} (on-goes {next = next} {e = e} {es = es} f d r) (out-goes {room = room} {es = fs} {whole = whole} h ok q) =
     let t = f (zeros x l room h) (long x l room h) in
     let log : reading x l (room - l .setup .w) .outcome .log ≡ next = ap (λ d. d .outcome .log) (sym (reading-is x l room h)) ∙ t .log in
     let kept : reading x l (room - l .setup .w) .outcome .log .kept ≡ length e = ap (λ (k : Log). k .kept) log ∙ reported next x d in

@@ -33,10 +33,10 @@ Roomy s room = s .w + s .p ≤ room
 
 -- the entries that are read from a log into `room` bytes, to the first answer that isn't OK, and whether that answer came and was FAIL
 pub data ReadsOut (x : Lent) : Log → ℕ → List (List ℕ) → Bool → Type 0 where
-  full : {l : Log} {room : ℕ} → room < l .setup .w + l .setup .p → ReadsOut x l room [] false
-  ends : {l : Log} {room : ℕ} → Roomy (l .setup) room → (reading x l (room - l .setup .w) .outcome .answer ≡ OK → ⊥)
+  out-full : {l : Log} {room : ℕ} → room < l .setup .w + l .setup .p → ReadsOut x l room [] false
+  out-ends : {l : Log} {room : ℕ} → Roomy (l .setup) room → (reading x l (room - l .setup .w) .outcome .answer ≡ OK → ⊥)
       → ReadsOut x l room [] (eqb (reading x l (room - l .setup .w) .outcome .answer) FAIL)
-  goes : {l : Log} {room : ℕ} {es : List (List ℕ)} {whole : Bool} → Roomy (l .setup) room → reading x l (room - l .setup .w) .outcome .answer ≡ OK
+  out-goes : {l : Log} {room : ℕ} {es : List (List ℕ)} {whole : Bool} → Roomy (l .setup) room → reading x l (room - l .setup .w) .outcome .answer ≡ OK
       → ReadsOut x (afterwards x (reading x l (room - l .setup .w) .outcome .log)) (room - (l .setup .w + length (entryRead x l (room - l .setup .w)))) es whole
       → ReadsOut x l room (entryRead x l (room - l .setup .w) ∷ es) whole
 

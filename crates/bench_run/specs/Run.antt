@@ -14,6 +14,7 @@ use Rattle.bench_flash.specs.Flash.{Left}
 use Rattle.bench_flash.specs.Event.{Event, restart}
 use Rattle.bench.specs.World.{World, lentBy}
 use Rattle.bench.specs.Promise.{Bench, stepped, steppedAll, start, NoHeader, AllClear, bookOldest, bookAppend, bookEntries}
+use Rattle.bench_step.specs.Step.{inPlace}
 use Rattle.bench_run.specs.Encoded.{decode}
 use Rattle.bench_run.specs.Entries.{ReadOut, fitting, laid}
 use Rattle.bench_run.specs.declared.run.FoundLog as found
@@ -36,7 +37,7 @@ after g es x = steppedAll g (atFirst g x) es
 
 -- "a further restart", with the read client set and the buffers as they are
 abbrev pub restartAgain : Left → Bool → World → Event
-restartAgain left append-client x = restart (record { left = left; read-client = true; append-client = append-client; page = x .page; hold = x .hold })
+restartAgain left append-client x = restart (inPlace left true append-client x)
 
 abbrev pub again : Setup → Left → Bool → Bench → Bench
 again g left append-client s = stepped g s (restartAgain left append-client (s .world))
@@ -76,9 +77,9 @@ pub record Ran (s : Bench) (f : FoundLog) (x' : Lent) (out out' : List ℕ) : Ty
 
 -- sizes and buffers that SHAPE refuses run nothing; any others run the list, and the promise holds of it
 pub data Runs (g : Setup) (es : List Event) (left : Left) (append-client : Bool) (x x' : Lent) (out out' : List ℕ) : Option FoundLog → Type 0 where
-  refused : shapeFits g (length (x .volume)) (length (x .page)) (length (x .hold)) ≡ false → x' ≡ x → out' ≡ out
+  list-refused : shapeFits g (length (x .volume)) (length (x .page)) (length (x .hold)) ≡ false → x' ≡ x → out' ≡ out
       → Runs g es left append-client x x' out out' none
-  ran : {f : FoundLog} → shapeFits g (length (x .volume)) (length (x .page)) (length (x .hold)) ≡ true
+  list-ran : {f : FoundLog} → shapeFits g (length (x .volume)) (length (x .page)) (length (x .hold)) ≡ true
       → Ran (again g left append-client (after g es x)) f x' out out'
       → (NoHeader g (x .volume) → AllClear g (atFirst g x) es → MatchesBook g (again g left append-client (after g es x)) f (length out) out')
       → Runs g es left append-client x x' out out' (some f)

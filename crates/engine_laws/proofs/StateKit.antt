@@ -33,10 +33,10 @@ past-last a {p} {w} h l s (inl e) =
 past-last a {p} {w} h l s (inr e) = omega (arith, parts a h, pages-le p (page-mono {x = a - 1} {y = a} h (omega arith)))
 
 -- where the overwritten page holds an ID up to the ceiling, the next page's first entry stands up to A
-lost-below : (l : Log) → Sized (l .setup) → StateFits l → (x : ℕ) → x ≤ ceiling (l .setup .w) → x / l .setup .p ≡ overwrittenPage l
+overwritten-below : (l : Log) → Sized (l .setup) → StateFits l → (x : ℕ) → x ≤ ceiling (l .setup .w) → x / l .setup .p ≡ overwrittenPage l
     → x / l .setup .p * l .setup .p + l .setup .p + l .setup .w ≤ l .append
 unfolding overwrittenPage
-lost-below l z s x c e = go (decLt q (l .setup .n))
+overwritten-below l z s x c e = go (decLt q (l .setup .n))
   where
     p : ℕ
     p = l .setup .p
@@ -90,7 +90,7 @@ oldest-moves l z s = by-pick (OldestFits l) (eqb (l .oldest / l .setup .p) (over
         let d = parts (l .oldest) (facts z .page) in
         record {
           headed = omega (arith, s .headed);
-          ordered = omega (arith, s .first, lost-below l z s (l .oldest) (omega (arith, s)) (eqb-true _ _ e));
+          ordered = omega (arith, s .first, overwritten-below l z s (l .oldest) (omega (arith, s)) (eqb-true _ _ e));
           first = same-rest (l .oldest) (l .setup .p) ∙ s .first;
         }
 
@@ -99,7 +99,7 @@ read-moves : (l : Log) → Sized (l .setup) → StateFits l → movedRead (l .se
 unfolding movedRead
 read-moves l z s =
     by-pick (λ (r : ℕ). r ≤ ceiling (l .setup .w)) (eqb (l .read / l .setup .p) (overwrittenPage l))
-    (λ e. omega (arith, s .limited, facts z, parts (l .read) (facts z .page), lost-below l z s (l .read) (s .read-limited) (eqb-true _ _ e)))
+    (λ e. omega (arith, s .limited, facts z, parts (l .read) (facts z .page), overwritten-below l z s (l .read) (s .read-limited) (eqb-true _ _ e)))
     (λ e. s .read-limited)
 
 -- a driver's refusal leaves Idle, in which any kept length fits

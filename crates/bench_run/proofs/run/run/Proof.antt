@@ -9,7 +9,7 @@ use Rattle.engine_call.specs.Outcome.{Lent, lend}
 use Rattle.bench_flash.specs.Flash.{leftOf}
 use Rattle.bench.specs.World.{World}
 use Rattle.bench.specs.Promise.{Bench}
-use Rattle.bench_run.specs.Run.{listed, after, again, foundLogOf, Ran, refused}
+use Rattle.bench_run.specs.Run.{listed, after, again, foundLogOf, Ran, list-refused}
 use Rattle.bench_run.proofs.Again.{list-runs}
 use borrow.Author.Needs.{needs}
 use Rattle.bench_run.proofs.run.run.Statement.{statement}
@@ -40,7 +40,7 @@ fits : (c : tie.Else1) → shaped (c .before) ≡ true
 fits c = sym (shaped-is (c .before)) ∙ not-false _ (c .if1 .left)
 
 returns : tie.Need-returns
-returns c = refused (sym (shaped-is (c .before)) ∙ not-true _ (c .if1 .taken)) refl refl
+returns c = list-refused (sym (shaped-is (c .before)) ∙ not-true _ (c .if1 .taken)) refl refl
 
 run-list-requires : tie.Need-run-list-requires
 run-list-requires c κs = fits (c .before .before .before .before)
