@@ -33,8 +33,8 @@ fn next<'a>(width: usize, volume: &'a [u8], buffer: &'a [u8], a: usize, r: usize
         Place::End => print::word(b"end"),
         Place::At(id) => {
             print::number(id.0);
-            let rest = page_lookup::held::get_rest(volume, buffer, p, EntryID(a), id);
-            match page_lookup::held::read_entry_header(w, rest, p) {
+            let data = page_lookup::held::get_entry(w, volume, buffer, p, EntryID(a), id);
+            match page_lookup::held::entry_length(data) {
                 EntryLength::Bad => print::word(b"bad"),
                 EntryLength::Is(n) => print::number(n),
             }
