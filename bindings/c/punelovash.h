@@ -57,8 +57,9 @@
  *     23 LIMIT   as before    an append that needs a page at C
  *
  * What the driver's word leaves is said at each call. SHAPE, STATE and STRAY come before all else; only a block of another
- * length has no sizes that SHAPE could look at: it is STATE. Where the block holds no log, no byte of it changes: the block from
- * PUNELOVASH_AT_REPORT on may still be that of an earlier call. After any other refusal it says no report and no request.
+ * length has no sizes that SHAPE could look at: it is STATE. A block of another length, with flags above 7 or with a state above 5
+ * does not change at all, nor does any block at a refused restart: from PUNELOVASH_AT_REPORT on it may still be that of an earlier
+ * call. After any other refusal it says no report and no request.
  *
  * How the flash is driven
  * -----------------------
@@ -99,8 +100,12 @@
  * And a page is written again: by every sync while it is open, and after a restart also if it isn't full and no later page is
  * on flash. A cut in such a write that leaves the page blank (all 0xFF) takes all of its entries, those too that were synced
  * before; one that leaves it old takes those appended since its last write. No other page is changed. With P = 32: append,
- * sync reported OK, append, sync cut and left blank: the log is empty. An entry is out of reach of a cut once a page with a
- * higher number than its own is on flash, until the log comes round to its slot or is erased.
+ * sync reported OK, append, sync cut and left blank: the log is empty. So a cut takes nothing of a page while one with a higher
+ * number is on flash, until the log comes round to its slot or is erased. But it may take that higher page: if it was the only
+ * one, the next restart opens the lower page again, unless that is full, and a second cut can take it.
+ *
+ * A write that failed may have left the page blank too. Its entries are then in the page buffer alone, and until a later write of
+ * the page ends well any cut takes them, those too that were synced before.
  *
  * Each sync of a page with entries costs the erase and the write of that page, also where nothing was appended since the last.
  *
@@ -346,7 +351,8 @@ uint32_t punelovash8_erase(uint8_t *block, size_t block_length, uint8_t word);
  *   in Append: append_done(length, lost, OK), with the entry stored in a new page in the page buffer; or append_done(0, 0,
  *   CANCEL) where no page may be opened, which doesn't come about in a log that a restart made; failed: append_done(0, 0, FAIL);
  *   in Sync: sync_done(OK), with a new page opened where the one written is full and another is allowed; failed: sync_done(FAIL).
- * After a failure the page buffer still holds its entries; the next flush writes it again.
+ * After a failure the page buffer still holds its entries, and the flash perhaps none of them, as the page may be left blank: a
+ * cut before a later write of it ends well takes them. The next flush writes it again.
  */
 uint32_t punelovash_write_complete(uint8_t *block, size_t block_length,
                                    const uint8_t *volume, size_t volume_length,

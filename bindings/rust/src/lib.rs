@@ -32,6 +32,16 @@
 //! assert_eq!(&buffer[..5], b"hello");
 //! ```
 //!
+//! # What is not promised
+//!
+//! What is proved is said in this folder's README. It is about the functions of the archives; this wrapper is tested. Of power cuts:
+//!
+//! - An entry reported done is on flash only once its page was written. A later write of the same page that is cut, or fails, and
+//!   leaves the page blank takes all of its entries, those that were synced before too.
+//! - That a restart finds exactly the pages on flash has three premises: the log began on a volume with no valid page header; no
+//!   entry has a length whose remainder by 256 is 0 or 255; and a page whose write or erase failed or was cut is left as it was,
+//!   all 0xFF, or as the write wanted it.
+//!
 //! # The driver's word
 //!
 //! A call that may request an operation is given the driver's word, which matters only where it makes a request. There are two

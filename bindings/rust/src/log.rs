@@ -63,8 +63,10 @@ pub trait LogWrite {
     /// Appends the first `length` bytes of `data`. It is reported at once, or after a write's completion.
     fn append(&mut self, volume: &[u8], data: &[u8], length: usize, word: DriverWord) -> Outcome;
 
-    /// Writes the page buffer to flash. It is reported by the write's completion; with nothing to write, by nothing. A power cut in
-    /// a later write of the same page can still take what was synced (`punelovash.h`, "What a power cut can still take").
+    /// Writes the page buffer to flash. It is reported by the write's completion; where the page has no entry it answers OK and
+    /// nothing is reported. Each other sync costs the erase and the write of a page, also where nothing was appended since the last.
+    /// A power cut in a later write of the same page can still take what was synced (`punelovash.h`, "What a power cut can still
+    /// take").
     fn sync(&mut self, volume: &[u8], word: DriverWord) -> Outcome;
 
     /// Erases the log, page by page. It is reported by the last erase's completion. A refusal leaves state Erase.

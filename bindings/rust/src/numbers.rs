@@ -21,7 +21,7 @@ pub enum Answer {
     Reserve,
     /// 6: a length or a seek's ID that isn't allowed
     Inval,
-    /// 7: the entry is too long for a page, or for a read's length
+    /// 7: the entry is too long for a page, or for a read's length; more page IDs than a survey has room for
     Size,
     /// 8: a read with its ID past the append ID
     Cancel,

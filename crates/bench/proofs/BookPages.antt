@@ -31,18 +31,18 @@ pub record Bottom (slots : ℕ → Option Page) (m a : ℕ) : Type 0 where
   pub from : (s : ℕ) (j : Page) → s < m → slots s ≡ some j → a ≤ j .number
 
 -- the extent of the headers, the least page number and the newest page go together: there is none of them, or each
-pub data Survey (p : ℕ) (slots : ℕ → Option Page) (m : ℕ) : Option Extent → Option ℕ → Option Page → Type 0 where
-  empty : ((s : ℕ) → s < m → slots s ≡ none) → Survey p slots m none none none
-  found : {x : Extent} {a : ℕ} {k : Page} → x .least ≡ a * p → x .greatest ≡ k .number * p → Bottom slots m a → Top slots m k
-      → Survey p slots m (some x) (some a) (some k)
+pub data HeadersPages (p : ℕ) (slots : ℕ → Option Page) (m : ℕ) : Option Extent → Option ℕ → Option Page → Type 0 where
+  empty : ((s : ℕ) → s < m → slots s ≡ none) → HeadersPages p slots m none none none
+  some-pages : {x : Extent} {a : ℕ} {k : Page} → x .least ≡ a * p → x .greatest ≡ k .number * p → Bottom slots m a → Top slots m k
+      → HeadersPages p slots m (some x) (some a) (some k)
 
 -- two pages of one slot are one
 pub one-page : {o : Option Page} {k j : Page} → o ≡ some k → o ≡ some j → k ≡ j
 one-page a b = cc
 
 -- a slot has no page and a page: that is not so
-pub no-page : {o : Option Page} {k : Page} → o ≡ none → o ≡ some k → ⊥
-no-page a b = let z : _≡_ {A = ℕ} 0 1 = cc in omega arith
+pub none-or-some : {o : Option Page} {k : Page} → o ≡ none → o ≡ some k → ⊥
+none-or-some a b = let z : _≡_ {A = ℕ} 0 1 = cc in omega arith
 
 -- one slot more
 module _ (p : ℕ) (slots : ℕ → Option Page) (m : ℕ) where
@@ -72,13 +72,13 @@ module _ (p : ℕ) (slots : ℕ → Option Page) (m : ℕ) where
   }
 
   -- the slot has no page
-  survey-none : slots m ≡ none → {x : Option Extent} {l : Option ℕ} {y : Option Page} → Survey p slots m x l y → Survey p slots (suc m) x l y
+  survey-none : slots m ≡ none → {x : Option Extent} {l : Option ℕ} {y : Option Page} → HeadersPages p slots m x l y → HeadersPages p slots (suc m) x l y
   survey-none e (empty h) = empty (λ s b. none-at s b (decLt s m))
     where
       none-at : (s : ℕ) → s < suc m → Dec (s < m) → slots s ≡ none
       none-at s b (yes l) = h s l
       none-at s b (no l) = let i : s ≡ m = omega arith in rw i e
-  survey-none e (found el eg b t) = found el eg (bottom-old (λ j i. absurd (no-page e i)) b) (top-old (λ j i. absurd (no-page e i)) t)
+  survey-none e (some-pages el eg b t) = some-pages el eg (bottom-old (λ j i. absurd (none-or-some e i)) b) (top-old (λ j i. absurd (none-or-some e i)) t)
 
   -- the slot has a page
   module _ (k : Page) (e : slots m ≡ some k) where
@@ -121,11 +121,11 @@ module _ (p : ℕ) (slots : ℕ → Option Page) (m : ℕ) where
         rw (le-ltb a (k .number) u) (bottom-new (λ s i b q. omega (arith, t .from s i b q)))
 
     -- all of them together
-    survey-some : {x : Option Extent} {l : Option ℕ} {y : Option Page} → Survey p slots m x l y
-        → Survey p slots (suc m) (some (widen (k .number * p) x)) (some (lesser (k .number) l)) (some (newer k y))
+    survey-some : {x : Option Extent} {l : Option ℕ} {y : Option Page} → HeadersPages p slots m x l y
+        → HeadersPages p slots (suc m) (some (widen (k .number * p) x)) (some (lesser (k .number) l)) (some (newer k y))
     survey-some (empty h) =
-        found refl refl (bottom-new (λ s j b i. absurd (no-page (h s b) i))) (top-new (λ s j b i. absurd (no-page (h s b) i)))
-    survey-some (found {x} {a} {k = j} el eg b t) = found (low less) (high more) (bottom-next b less) (top-next t more)
+        some-pages refl refl (bottom-new (λ s j b i. absurd (none-or-some (h s b) i))) (top-new (λ s j b i. absurd (none-or-some (h s b) i)))
+    survey-some (some-pages {x} {a} {k = j} el eg b t) = some-pages (low less) (high more) (bottom-next b less) (top-next t more)
       where
         less : Dec (a < k .number)
         less = decLt a (k .number)
@@ -142,15 +142,15 @@ module _ (p : ℕ) (slots : ℕ → Option Page) (m : ℕ) where
         high (no l) = let u : j .number ≤ k .number = omega arith in rw (le-ltb (k .number) (j .number) u) (omega (arith, pages-le p u))
 
 -- the valid headers of a volume are those of the book's pages
-pub survey : (g : Setup) (volume : List ℕ) (slots : ℕ → Option Page) → Sized g → ((s : ℕ) → s < g .n → SlotHolds g volume s (slots s))
-    → (m : ℕ) → m ≤ g .n → Survey (g .p) slots m (extent (idsBelow (g .w) (g .p) (g .n) volume m)) (least (pages m slots)) (newest (pages m slots))
-survey g volume slots z h zero b = empty (λ s l. absurd (omega arith))
-survey g volume slots z h (suc m) b =
-    go (slots m) refl (h m b) (idsBelow (g .w) (g .p) (g .n) volume m) (pages m slots) (survey g volume slots z h m (omega arith))
+pub headers-pages : (g : Setup) (volume : List ℕ) (slots : ℕ → Option Page) → Sized g → ((s : ℕ) → s < g .n → SlotHolds g volume s (slots s))
+    → (m : ℕ) → m ≤ g .n → HeadersPages (g .p) slots m (extent (idsBelow (g .w) (g .p) (g .n) volume m)) (least (pages m slots)) (newest (pages m slots))
+headers-pages g volume slots z h zero b = empty (λ s l. absurd (omega arith))
+headers-pages g volume slots z h (suc m) b =
+    go (slots m) refl (h m b) (idsBelow (g .w) (g .p) (g .n) volume m) (pages m slots) (headers-pages g volume slots z h m (omega arith))
   where
     go : (o : Option Page) → slots m ≡ o → SlotHolds g volume m o → (ids : List ℕ) (ks : List Page)
-        → Survey (g .p) slots m (extent ids) (least ks) (newest ks)
-        → Survey (g .p) slots (suc m) (extent (joined (header (g .w) (g .p) (g .n) volume m) ids)) (least (withPage o ks)) (newest (withPage o ks))
+        → HeadersPages (g .p) slots m (extent ids) (least ks) (newest ks)
+        → HeadersPages (g .p) slots (suc m) (extent (joined (header (g .w) (g .p) (g .n) volume m) ids)) (least (withPage o ks)) (newest (withPage o ks))
     go none e v ids ks s = rw v (survey-none (g .p) slots m e s)
     go (some k) e v ids ks s =
         rw (page-in-slot z volume m (k .number) (k .entries) (v .below) (v .bytes) (sym (v .slot))) (survey-some (g .p) slots m k e s)

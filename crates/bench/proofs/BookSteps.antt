@@ -22,8 +22,7 @@ use Rattle.page.specs.Layout.{encodePage, wholePage, pageLength, AllGood, Good}
 use Rattle.page.proofs.Kit.{facts, same-slot, pages-le, round-first, both}
 use Rattle.page.proofs.Words.{length-wordBytes}
 use Rattle.page.proofs.Overwrites.{length-overwrite}
-use Rattle.page.proofs.Headers as headers
-use Rattle.page.proofs.Headers.{take-replicate}
+use Rattle.page.proofs.Headers.{take-replicate, blank-header}
 use Rattle.page.proofs.Slots.{length-put, put-same, put-other, header-slots}
 use Rattle.page.proofs.Pages.{length-wholePage, begins-header, begins-whole}
 use Rattle.engine_state.specs.Log.{Setup, State}
@@ -38,7 +37,7 @@ use Rattle.bench.specs.World.{unended, Told, endedBy}
 use Rattle.bench.specs.Book.{Page, Book, allowed, inBook, withSlot, withOpen, emptyPage, withEntry, appendReported, joins, asked, slotLeft, leftIn}
 use Rattle.bench.specs.Book.{recorded}
 use Rattle.bench.proofs.Invariant.{SomeEntry, SlotHolds, Has, HasOrBlank, Near, Books, Buffered, Under, idle, read, seek, stuck, erase, sync, append}
-use Rattle.bench.proofs.BookPages.{one-page, no-page}
+use Rattle.bench.proofs.BookPages.{one-page, none-or-some}
 
 -- not (not x or y) is x and not y
 not-or : (x y : Bool) → not (not x || y) ≡ (x && not y)
@@ -181,7 +180,7 @@ pub has-left : (g : Setup) (slots : ℕ → Option Page) (s m : ℕ) → Has g (
 has-left g slots s m h = go (has-changed slots s none g m h)
   where
     go : (none ≡ some (h .page)) ⊎ Elsewhere g slots s m → Elsewhere g slots s m
-    go (inl e) = absurd (no-page refl e)
+    go (inl e) = absurd (none-or-some refl e)
     go (inr i) = i
 
 -- a page that is there after a slot got a page is that page, or one of another slot
@@ -195,7 +194,7 @@ has-put g slots s m k h = go (has-changed slots s (some k) g m h)
 
 -- what waits and which slot is erased is nothing to the volume
 pub books-same : {g : Setup} {volume : List ℕ} {b : Book} → Books g volume b → (e : List ℕ) (s : ℕ)
-    → Books g volume (record { slots = b .slots; open-page = b .open-page; waiting = e; erasing = s })
+    → Books g volume (record { slots = b .slots; open-page = b .open-page; waiting = e; erase-slot = s })
 books-same bk e s = record {
   sizes = bk .sizes;
   first = bk .first;
@@ -331,7 +330,7 @@ pub books-blank : {g : Setup} {volume : List ℕ} {b : Book} → Books g volume 
 books-blank {g} {volume} bk s h =
     let after : List ℕ = inSlot (g .p) s (blankPage (g .p)) volume in
     let emptied : slotBytes (g .p) s after ≡ blankPage (g .p) = put-here bk s h (blankPage (g .p)) (length-blank (g .p)) in
-    books-put bk s h (blankPage (g .p)) (length-blank (g .p)) none (headers.blank (bk .sizes) after s emptied) (λ k e. absurd (no-page refl e))
+    books-put bk s h (blankPage (g .p)) (length-blank (g .p)) none (blank-header (bk .sizes) after s emptied) (λ k e. absurd (none-or-some refl e))
     (λ m j c l u e. inr (ap (λ (t : ℕ). slotBytes (g .p) t after) e ∙ emptied))
 
 -- "new writes put the open page and its list in its slot"

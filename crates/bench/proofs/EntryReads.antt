@@ -10,8 +10,8 @@ use lib.Dec.{eqb}
 use borrow.Author.Tests.{le-ltb, lt-leb, le-leb}
 use Rattle.page.specs.Pick.{pick}
 use Rattle.page.specs.Bytes.{padByte}
-use Rattle.page.specs.Answered.{Answered, gives, refuses, FAIL}
-use Rattle.page_lookup.specs.Held.{bytesAt, byteAt, place, nextEntry, entryLength}
+use Rattle.page.specs.Answered.{gives, refuses, FAIL}
+use Rattle.page_lookup.specs.Held.{bytesAt, byteAt, place, nextEntry}
 use Rattle.page.proofs.Kit.{parts}
 use Rattle.page.proofs.Overwrites.{overwrite-same}
 use Rattle.engine_state.specs.Log.{State, Idle, Read, Log}
@@ -21,30 +21,28 @@ use Rattle.engine_call.specs.Outcome.{Lent, Done, firstOf, moved}
 use Rattle.engine_call.specs.Gate.{gate}
 use Rattle.engine_read.specs.Read.{Found, entry, no-entry, foundLength, found, readDone, readRuns, read, readBuffer}
 use Rattle.engine_read.specs.Deferred.{deferredRuns, deferred}
+use Rattle.engine_laws.proofs.ReadRows.{lengthThere}
 use Rattle.bench.specs.Promise.{ReadsOn, on-ends, on-goes}
-use Rattle.bench.proofs.Gates.{fits-shape, passes}
+use Rattle.bench.proofs.Gates.{fits-shape, fits-gate}
 
 -- the log in the run: its state, its read ID and its kept length vary
-abbrev pub logAt : Log → State → ℕ → ℕ → Log
-logAt l state r kept = moved l state (l .oldest) r (l .append) kept
+abbrev pub readingLog : Log → State → ℕ → ℕ → Log
+readingLog l state r kept = moved l state (l .oldest) r (l .append) kept
 
 -- the place of the entry at a read ID, the length of an entry, and bytes, as the log finds them
 abbrev pub placeOf : Log → Lent → ℕ → ℕ
 placeOf l x r = place (l .setup .w) (l .setup .p) (l .append) (x .volume) (x .page) r
-
-abbrev pub lengthAt : Log → Lent → ℕ → Answered
-lengthAt l x id = entryLength (l .setup .w) (l .setup .p) (l .append) (x .volume) (x .page) id
 
 abbrev pub heldAt : Log → Lent → ℕ → ℕ → List ℕ
 heldAt l x pos n = bytesAt (l .setup .p) (l .append) (x .volume) (x .page) pos n
 
 -- what a read finds
 abbrev pub foundFrom : Log → Lent → ℕ → ℕ → Found
-foundFrom l x r kept = found (logAt l Idle r kept) x (l .setup .p)
+foundFrom l x r kept = found (readingLog l Idle r kept) x (l .setup .p)
 
 -- reading on with a read ID and a kept length
 abbrev pub ReadsFrom : Log → Lent → ℕ → ℕ → List (List ℕ) → Type 0
-ReadsFrom l x r kept es = ReadsOn x (logAt l Idle r kept) es
+ReadsFrom l x r kept es = ReadsOn x (readingLog l Idle r kept) es
 
 -- what stays in the run
 pub record Reader (l : Log) (x : Lent) : Type 0 where
@@ -63,14 +61,14 @@ ReadsPast l x r es = (kept : ℕ) → Within l r kept → ReadsFrom l x r kept e
 
 -- an entry is found at the place of the read ID, below A, if its length fits
 module _ (l : Log) (x : Lent) (r kept : ℕ) {id : ℕ} (e : placeOf l x r ≡ id) (h : id < l .append) where
-  found-length : foundFrom l x r kept ≡ foundLength (l .setup .p) id (lengthAt l x id)
+  found-length : foundFrom l x r kept ≡ foundLength (l .setup .p) id (lengthThere l x id)
   unfolding found nextEntry
   found-length = rw (e, lt-leb (l .append) id h)
 
-  pub found-entry : {n : ℕ} → lengthAt l x id ≡ gives n → n ≤ l .setup .p → foundFrom l x r kept ≡ entry id n
+  pub found-entry : {n : ℕ} → lengthThere l x id ≡ gives n → n ≤ l .setup .p → foundFrom l x r kept ≡ entry id n
   found-entry {n} long fits = found-length ∙ rw (long, le-ltb (l .setup .p) n fits)
 
-  pub found-broken : lengthAt l x id ≡ refuses FAIL → foundFrom l x r kept ≡ no-entry FAIL
+  pub found-broken : lengthThere l x id ≡ refuses FAIL → foundFrom l x r kept ≡ no-entry FAIL
   found-broken long = found-length ∙ rw long
 
 -- and none at A or past it
@@ -90,9 +88,9 @@ place-from l x r h = go (eqb (r % l .setup .p) 0) (eqb (byteAt (l .setup .p) (l 
 
 module _ {l : Log} {x : Lent} (q : Reader l x) where
   -- the gate passes every call of the run
-  run-passes : (state : State) {r kept : ℕ} → keptFits state kept ≡ true → Within l r kept → gate (logAt l state r kept) x ≡ none
+  run-passes : (state : State) {r kept : ℕ} → keptFits state kept ≡ true → Within l r kept → gate (readingLog l state r kept) x ≡ none
   run-passes state {r} {kept} s v =
-      let fits : StateFits (logAt l state r kept) =
+      let fits : StateFits (readingLog l state r kept) =
       record {
         headed = q .fits .headed;
         ordered = q .fits .ordered;
@@ -104,23 +102,23 @@ module _ {l : Log} {x : Lent} (q : Reader l x) where
         kept-some = s;
       } in
       let h = q .shape in
-      passes _ x (fits-shape (l .setup) _ _ _ (h .sizes) (h .first) (h .whole) (h .buffer) (h .held)) (fits-state _ fits)
+      fits-gate _ x (fits-shape (l .setup) _ _ _ (h .sizes) (h .first) (h .whole) (h .buffer) (h .held)) (fits-state _ fits)
 
   -- the deferred call after a read
-  after-read : {r kept : ℕ} → Within l r kept → deferred (logAt l Read r kept) x ≡ deferredRuns (logAt l Read r kept) x
+  after-read : {r kept : ℕ} → Within l r kept → deferred (readingLog l Read r kept) x ≡ deferredRuns (readingLog l Read r kept) x
   unfolding firstOf keptFits
   after-read v = rw (run-passes Read refl v)
 
   module _ {r kept : ℕ} (v : Within l r kept) where
     -- a read with a buffer that is long enough gives what it finds
     reads-found : (room : ℕ) → l .setup .p ≤ room
-        → read (logAt l Idle r kept) x room (l .setup .p) ≡ readDone (logAt l Idle r kept) x (foundFrom l x r kept)
+        → read (readingLog l Idle r kept) x room (l .setup .p) ≡ readDone (readingLog l Idle r kept) x (foundFrom l x r kept)
     unfolding firstOf keptFits readRuns found
     reads-found room m = rw (run-passes Idle refl v, le-ltb room (l .setup .p) m, le-ltb (l .append) r (v .read), q .client)
 
     -- where no entry is found the run ends
     pub reads-end : foundFrom l x r kept ≡ no-entry FAIL → ReadsFrom l x r kept []
-    reads-end none-there = on-ends {l = logAt l Idle r kept} (λ bytes m. rw (reads-found (length bytes) m, none-there))
+    reads-end none-there = on-ends {l = readingLog l Idle r kept} (λ bytes m. rw (reads-found (length bytes) m, none-there))
 
     -- the entry that is found is read, and reading goes on past it
     pub reads-entry : {id : ℕ} {e : List ℕ} {es : List (List ℕ)} → foundFrom l x r kept ≡ entry id (length e)
@@ -128,7 +126,7 @@ module _ {l : Log} {x : Lent} (q : Reader l x) where
         → ReadsFrom l x (id + l .setup .w + length e) (length e) es → ReadsFrom l x r kept (e ∷ es)
     unfolding readBuffer found
     reads-entry {id} {e} {es} there bytes-are next on =
-        on-goes {l = logAt l Idle r kept} {next = logAt l Read (id + l .setup .w + length e) (length e)} {e = e}
+        on-goes {l = readingLog l Idle r kept} {next = readingLog l Read (id + l .setup .w + length e) (length e)} {e = e}
         (λ bytes m.
         let one = reads-found (length bytes) m in
         record {

@@ -82,7 +82,7 @@ module _ {x : World} {b : Book} (bk : Books (x .log .setup) (x .volume) b) (r : 
       (call-keeps (x .log) (lentBy x) (calls.erase word) (r .fits))
 
   -- an erase is under way: the oldest page's
-  module _ (e : b .erasing ≡ slotOf n o) (left : Left) where
+  module _ (e : b .erase-slot ≡ slotOf n o) (left : Left) where
     abbrev op : Operation
     op = erasing (slotOf n o)
 
@@ -101,24 +101,24 @@ module _ {x : World} {b : Book} (bk : Books (x .log .setup) (x .volume) b) (r : 
     failed-erase : (word : Word) → Keeps false word (eraseFailed (x .log) (lent false word))
     unfolding recorded
     failed-erase word clear fits =
-        let live : (m : ℕ) → Has g (inBook (b .slots) (b .erasing) none) m → Live g (b .open-page) o m =
-        λ m h. r .oldest .live m (has-left g (b .slots) (b .erasing) m h .0) in
-        rw (no-start no-operation word (g .first)) (left-inv bk r (x .log .kept) fits (b .erasing) none live left (books-ended bk under left))
+        let live : (m : ℕ) → Has g (inBook (b .slots) (b .erase-slot) none) m → Live g (b .open-page) o m =
+        λ m h. r .oldest .live m (has-left g (b .slots) (b .erase-slot) m h .0) in
+        rw (no-start no-operation word (g .first)) (left-inv bk r (x .log .kept) fits (b .erase-slot) none live left (books-ended bk under left))
 
     -- the slots without the page
     abbrev slots : ℕ → Option Page
-    slots = inBook (b .slots) (b .erasing) none
+    slots = inBook (b .slots) (b .erase-slot) none
 
     -- the volume without it
     abbrev volume : List ℕ
     volume = afterEnd p op (x .page) new (x .volume)
 
-    erased-books : Books g volume (withSlot b (b .erasing) none)
+    erased-books : Books g volume (withSlot b (b .erase-slot) none)
     erased-books = books-ended bk under new
 
     -- a page that is left, in another slot than the oldest
     page-left : (m : ℕ) → Has g slots m → Elsewhere g (b .slots) (slotOf n o) m
-    page-left m h = subst (λ (s : ℕ). Elsewhere g (b .slots) s m) e (has-left g (b .slots) (b .erasing) m h)
+    page-left m h = subst (λ (s : ℕ). Elsewhere g (b .slots) s m) e (has-left g (b .slots) (b .erase-slot) m h)
 
     -- where the last page was erased, no page is left
     none-left : x .log .append ≤ x .log .oldest + p → (m : ℕ) → Has g slots m → ⊥
@@ -148,7 +148,7 @@ module _ {x : World} {b : Book} (bk : Books (x .log .setup) (x .volume) b) (r : 
     unfolding recorded
     reset-ends last word clear fits =
         rw (no-start no-operation word (g .first)) (record {
-          books = books-none g (withSlot b (b .erasing) none) (bk .sizes) (bk .first) (erased-books .whole) (erased-books .slots) (none-left last);
+          books = books-none g (withSlot b (b .erase-slot) none) (bk .sizes) (bk .first) (erased-books .whole) (erased-books .slots) (none-left last);
           powered = record {
             setup = refl;
             hold-length = r .hold-length;
@@ -183,7 +183,7 @@ module _ {x : World} {b : Book} (bk : Books (x .log .setup) (x .volume) b) (r : 
 
       -- the book with the erase of a slot asked for
       abbrev nextBook : ℕ → Book
-      nextBook s = asked (withSlot b (b .erasing) none) (some s)
+      nextBook s = asked (withSlot b (b .erase-slot) none) (some s)
 
       next-inv : (state : State) (at s : ℕ) (next : Operation) → stateFits (nextLog state at) ≡ true
           → UnderIn g x (nextBook s) (next-oldest more .page) state next
@@ -200,9 +200,9 @@ module _ {x : World} {b : Book} (bk : Books (x .log .setup) (x .volume) b) (r : 
       -- whatever the driver's word
       next-ends : (word : Word) → Keeps true word (erasesNext (x .log) (lent true word) word)
       unfolding recorded
-      next-ends ok clear fits = next-inv Erase (x .log .read) _ _ fits (asked-under (withSlot b (b .erasing) none) _ _ next-slot refl ok)
+      next-ends ok clear fits = next-inv Erase (x .log .read) _ _ fits (asked-under (withSlot b (b .erase-slot) none) _ _ next-slot refl ok)
       next-ends busy clear fits = next-inv Idle (readAfterBusy (x .log .read) (x .log .oldest)) _ _ fits idle
-      next-ends fail clear fits = next-inv Erase (x .log .read) _ _ fits (asked-under (withSlot b (b .erasing) none) _ _ next-slot refl fail)
+      next-ends fail clear fits = next-inv Erase (x .log .read) _ _ fits (asked-under (withSlot b (b .erase-slot) none) _ _ next-slot refl fail)
 
     -- an erase that ends
     pub erase-ends : (good : Bool) (word : Word) → Keeps good word (eraseRuns (x .log) (lent good word) good word)

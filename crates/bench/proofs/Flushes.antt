@@ -118,7 +118,7 @@ module _ {x : World} {b : Book} (bk : Books (x .log .setup) (x .volume) b) (r : 
 
     -- the book with other data waiting
     abbrev waitingBook : List ℕ → Book
-    waitingBook e = record { slots = b .slots; open-page = b .open-page; waiting = e; erasing = b .erasing }
+    waitingBook e = record { slots = b .slots; open-page = b .open-page; waiting = e; erase-slot = b .erase-slot }
 
     -- what it keeps, but for what is under way
     flush-inv : (word : Word) (e : List ℕ) → stateFits (flushed word .outcome .log) ≡ true
@@ -127,7 +127,7 @@ module _ {x : World} {b : Book} (bk : Books (x .log .setup) (x .volume) b) (r : 
         → Inv g (delivered (g .first) x unended (flushed word) word .world) (waitingBook e)
     unfolding flush
     flush-inv word e fits under = record {
-      books = books-same bk e (b .erasing);
+      books = books-same bk e (b .erase-slot);
       powered = record {
         setup = refl;
         hold-length = long;

@@ -31,7 +31,7 @@ use Rattle.bench.specs.Book.{asked, opens, emptied, pages, newest, reope
 use Rattle.bench.specs.Promise.{Bench, stepped, steppedAll, Clear, AllClear, NoHeader, start}
 use Rattle.bench.proofs.Invariant.{SlotHolds, Has, Books, Under, idle, read, seek, stuck, erase, sync, append, Running, Powered, Inv}
 use Rattle.bench.proofs.BookSteps.{slot-other}
-use Rattle.bench.proofs.RestartKeeps.{has-slot, holds}
+use Rattle.bench.proofs.RestartKeeps.{has-its-number, slot-holds}
 use Rattle.bench.proofs.Gates.{gate-passes}
 use Rattle.bench.proofs.Appends.{may-next}
 use Rattle.bench.proofs.Theorem.{step-keeps, list-inv, start-inv}
@@ -137,7 +137,7 @@ none-left {g} s bk e = record { open-page = e; no-page = none-there; no-header =
     go : (t : ℕ) → t < g .n → (k : Option Page) → s .book .slots t ≡ k → SlotHolds g (s .world .volume) t k
         → header (g .w) (g .p) (g .n) (s .world .volume) t ≡ none
     go t l none i h = h
-    go t l (some k) i h = absurd (none-there (k .number) (has-slot bk t k l i))
+    go t l (some k) i h = absurd (none-there (k .number) (has-its-number bk t k l i))
 
 -- an erase request's slot is no matter to the open page
 asked-open : (b : Book) (s : Option ℕ) → asked b s .open-page ≡ b .open-page
@@ -182,7 +182,7 @@ ended-left idle s d left = refl
 ended-left read s d left = refl
 ended-left seek s d left = refl
 ended-left stuck s d left = refl
-ended-left {b = b} (erase e) s d left = slot-left b (b .erasing) none s (λ i. d (i ∙ e)) left
+ended-left {b = b} (erase e) s d left = slot-left b (b .erase-slot) none s (λ i. d (i ∙ e)) left
 ended-left {b = b} (sync a) s d left = slot-left b _ (some (b .open-page)) s d left
 ended-left {b = b} (append a c) s d left = slot-left b _ (some (b .open-page)) s d left
 
@@ -206,7 +206,7 @@ off-left g x b s (restart a) = refl
 
 -- what the book is told beside what an operation left changes no slot
 pick-slots : (t : Bool) (b : Book) (k : Page) (e : List ℕ)
-    → pick t (record { slots = b .slots; open-page = k; waiting = e; erasing = b .erasing }) b .slots ≡ b .slots
+    → pick t (record { slots = b .slots; open-page = k; waiting = e; erase-slot = b .erase-slot }) b .slots ≡ b .slots
 pick-slots true b k e = refl
 pick-slots false b k e = refl
 
@@ -248,7 +248,7 @@ pub record Kept (g : Setup) (s : Bench) (slot : ℕ) (k : Page) : Type 0 where
 -- "Other pages never change.": what the book says of a slot, and the bytes there, survive every event that ends no operation on it
 module _ {g : Setup} (slot : ℕ) (l : slot < g .n) where
   kept : (s : Bench) → Inv g (s .world) (s .book) → (k : Page) → s .book .slots slot ≡ some k → Kept g s slot k
-  kept s i k is = record { there = is; bytes = holds (i .books) slot k l is .bytes }
+  kept s i k is = record { there = is; bytes = slot-holds (i .books) slot k l is .bytes }
 
   pub survives : (s : Bench) → Inv g (s .world) (s .book) → (e : Event) → Clear (entryOf (s .book) e (step g (s .world) e .told))
       → Spares e (s .world .operation) slot → (k : Page) → s .book .slots slot ≡ some k → Kept g (stepped g s e) slot k

@@ -34,16 +34,16 @@ unfolding shapeFits
 fits-shape g volume page hold z h v p q = rw (fits-sizes g z h, eq-eqb _ _ v, eq-eqb _ _ p) (eq-eqb _ _ q)
 
 -- the gate passes a shape and a state that fit
-pub passes : (l : Log) (x : Lent) → shapeFits (l .setup) (length (x .volume)) (length (x .page)) (length (x .hold)) ≡ true → stateFits l ≡ true
+pub fits-gate : (l : Log) (x : Lent) → shapeFits (l .setup) (length (x .volume)) (length (x .page)) (length (x .hold)) ≡ true → stateFits l ≡ true
     → gate l x ≡ none
 unfolding gateBy firstOf
-passes l x s t = rw (s, t)
+fits-gate l x s t = rw (s, t)
 
 -- with the power on the gate passes, whatever an operation that has ended left in the volume
 pub gate-passes : {g : Setup} {volume : List ℕ} {x : World} {b b' : Book} → Books g volume b' → Running g x b
     → gate (x .log) (lend volume (x .page) (x .hold)) ≡ none
 gate-passes {g} {volume} {x} bk r =
-    passes (x .log) (lend volume (x .page) (x .hold))
+    fits-gate (x .log) (lend volume (x .page) (x .hold))
     (subst (λ (h : Setup). shapeFits h (length volume) (length (x .page)) (length (x .hold)) ≡ true) (sym (r .setup))
     (fits-shape g _ _ _ (bk .sizes) (bk .first) (bk .whole) (r .buffer .page-length) (r .hold-length)))
     (r .fits)
@@ -56,18 +56,18 @@ pub record Still (l : Log) (x : Lent) (d : Done) : Type 0 where
 -- a call with a check before others
 module _ (l : Log) (x : Lent) (c : Stop) (cs : List Stop) (body : Done) where
   -- whose test holds only answers
-  pub stops : c .test ≡ true → Still l x (called l x (c ∷ cs) body)
+  pub check-stops : c .test ≡ true → Still l x (called l x (c ∷ cs) body)
   unfolding firstOf
-  stops t = go (gate l x)
+  check-stops t = go (gate l x)
     where
       go : (q : Option ℕ) → Still l x (unless (q orElse pick (c .test) (some (c .answer)) (firstOf cs)) l x body)
       go none = record { answer = c .answer; is = rw t }
       go (some a) = record { answer = a; is = refl }
 
   -- whose test fails is the call without it
-  pub goes : c .test ≡ false → called l x (c ∷ cs) body ≡ called l x cs body
+  pub check-passes : c .test ≡ false → called l x (c ∷ cs) body ≡ called l x cs body
   unfolding firstOf
-  goes t = rw t
+  check-passes t = rw t
 
 -- a call with no check left that passes the gate is its body
 pub runs : (l : Log) (x : Lent) (body : Done) → gate l x ≡ none → called l x [] body ≡ body

@@ -23,7 +23,7 @@ abbrev pub SomeEntry : Page → Type 0
 SomeEntry k = k .entries ≡ [] → ⊥
 
 -- a slot holds the whole encoding of a page of the book
-pub record Holds (g : Setup) (volume : List ℕ) (s : ℕ) (k : Page) : Type 0 where
+pub record HoldsPage (g : Setup) (volume : List ℕ) (s : ℕ) (k : Page) : Type 0 where
   pub slot : slotOf (g .n) (k .number) ≡ s
   pub below : firstId (g .p) (k .number) < ceiling (g .w)
   pub some-entry : SomeEntry k
@@ -34,7 +34,7 @@ pub record Holds (g : Setup) (volume : List ℕ) (s : ℕ) (k : Page) : Type 0 w
 -- a slot of which the book has nothing has no valid header
 abbrev pub SlotHolds : Setup → List ℕ → ℕ → Option Page → Type 0
 SlotHolds g volume s none = header (g .w) (g .p) (g .n) volume s ≡ none
-SlotHolds g volume s (some k) = Holds g volume s k
+SlotHolds g volume s (some k) = HoldsPage g volume s k
 
 -- a book with these slots has the page m
 pub record Has (g : Setup) (slots : ℕ → Option Page) (m : ℕ) : Type 0 where
@@ -100,7 +100,7 @@ pub data Under (g : Setup) (page hold : List ℕ) (kept : ℕ) (b : Book) (oldes
   read : Under g page hold kept b oldest Read no-operation
   seek : Under g page hold kept b oldest Seek no-operation
   stuck : Under g page hold kept b oldest Erase no-operation
-  erase : b .erasing ≡ slotOf (g .n) oldest → Under g page hold kept b oldest Erase (erasing (slotOf (g .n) oldest))
+  erase : b .erase-slot ≡ slotOf (g .n) oldest → Under g page hold kept b oldest Erase (erasing (slotOf (g .n) oldest))
   sync : Writes g page (b .open-page) oldest → Under g page hold kept b oldest Sync (writing (slotOf (g .n) (b .open-page .number)))
   append : Writes g page (b .open-page) oldest → Waits g kept hold b
       → Under g page hold kept b oldest Append (writing (slotOf (g .n) (b .open-page .number)))

@@ -24,8 +24,9 @@ use Rattle.page.proofs.Pages.{length-encodePage, encodeAll-append, entriesLengt
 use Rattle.page_lookup.proofs.Helds.{holder-buffer, holder-volume, first-byteAt}
 use Rattle.engine_state.specs.Log.{Log}
 use Rattle.engine_call.specs.Outcome.{Lent}
+use Rattle.engine_laws.proofs.ReadRows.{lengthThere}
 use Rattle.bench_flash.specs.Flash.{blankPage}
-use Rattle.bench.proofs.EntryReads.{placeOf, lengthAt, heldAt, ReadsFrom, ReadsPast, Reader, Within, found-entry, reads-entry}
+use Rattle.bench.proofs.EntryReads.{placeOf, heldAt, ReadsFrom, ReadsPast, Reader, Within, found-entry, reads-entry}
 
 -- the bytes at the positions of page m are those of b
 pub record Shows (l : Log) (x : Lent) (m : ℕ) (b : List ℕ) : Type 0 where
@@ -131,7 +132,7 @@ module _ {l : Log} {x : Lent} (q : Reader l x) where
           rw off (omega arith)
 
   -- in a page that is all 0xFF no entry has a length
-  pub blank-length : {m : ℕ} → Shows l x m (blankPage p) → lengthAt l x (m * p + w) ≡ refuses FAIL
+  pub blank-length : {m : ℕ} → Shows l x m (blankPage p) → lengthThere l x (m * p + w) ≡ refuses FAIL
   unfolding entryLength
   blank-length {m} v =
       let word = shows-word v w (omega (arith, f)) (omega (arith, f)) in
@@ -199,7 +200,7 @@ module _ {l : Log} {x : Lent} (q : Reader l x) where
           let byte = shows-byte (v .shows) off (omega (arith, its-room, f .word)) in
           rw (its-offset, ne-eqb off 0 (λ z. omega (arith, f .word, z)), ne-eqb _ padByte (λ b. its-byte (sym byte ∙ b)))
 
-      its-length : lengthAt l x (m * p + off) ≡ gives (length e)
+      its-length : lengthThere l x (m * p + off) ≡ gives (length e)
       unfolding entryLength
       its-length =
           let word = shows-word (v .shows) off (omega (arith, its-room, f .word)) (omega (arith, its-room)) ∙ its-word in

@@ -31,7 +31,7 @@ use Rattle.bench.specs.Book.{Book, asked, recorded}
 use Rattle.bench.proofs.Invariant.{Books, Under, Running, Powered, Inv, After}
 use Rattle.bench.proofs.Invariant as under
 use Rattle.bench.proofs.BookSteps.{recorded-call}
-use Rattle.bench.proofs.Gates.{Still, stops, goes}
+use Rattle.bench.proofs.Gates.{Still, check-stops, check-passes}
 
 -- a state in which nothing is under way, and no erase
 pub data Rests : State → Type 0 where
@@ -126,22 +126,22 @@ module _ (l : Log) (x : Lent) where
 
   -- a completion that isn't due is refused
   stray-still : (c : Completion) → unlessDue l c .test ≡ true → Still l x (complete l x c)
-  stray-still c t = subst (Still l x) (sym (complete-is l x c)) (stops l x (unlessDue l c) [] (endOf l x c) t)
+  stray-still c t = subst (Still l x) (sym (complete-is l x c)) (check-stops l x (unlessDue l c) [] (endOf l x c) t)
 
   -- in Append, Sync and Erase a call only answers
   busy-still : Busy (l .state) → (c : Call) → Still l x (engine.call l x c)
-  busy-still (i, d) (append bytes n word) = stops l x (unlessIdle l) _ _ i
+  busy-still (i, d) (append bytes n word) = check-stops l x (unlessIdle l) _ _ i
   busy-still (i, d) (sync word) = go (synced l) refl
     where
       go : (t : Bool) → synced l ≡ t → Still l x (engine.call l x (sync word))
-      go true e = stops l x (stopIf (synced l) OK) (unlessFree l) _ e
+      go true e = check-stops l x (stopIf (synced l) OK) (unlessFree l) _ e
       go false e =
-          let s = stops l x (unlessIdle l) (unlessSet (l .append-client) ∷ []) (flush l x Sync (l .kept) word) i in
-          record { answer = s .answer; is = goes l x (stopIf (synced l) OK) (unlessFree l) (flush l x Sync (l .kept) word) e ∙ s .is }
-  busy-still (i, d) (read room n) = stops l x (unlessIdle l) _ _ i
-  busy-still (i, d) (seek id) = stops l x (unlessIdle l) _ _ i
-  busy-still (i, d) deferred = stops l x (unlessDeferred l) [] _ d
-  busy-still (i, d) (erase word) = stops l x (unlessIdle l) _ _ i
+          let s = check-stops l x (unlessIdle l) (unlessSet (l .append-client) ∷ []) (flush l x Sync (l .kept) word) i in
+          record { answer = s .answer; is = check-passes l x (stopIf (synced l) OK) (unlessFree l) (flush l x Sync (l .kept) word) e ∙ s .is }
+  busy-still (i, d) (read room n) = check-stops l x (unlessIdle l) _ _ i
+  busy-still (i, d) (seek id) = check-stops l x (unlessIdle l) _ _ i
+  busy-still (i, d) deferred = check-stops l x (unlessDeferred l) [] _ d
+  busy-still (i, d) (erase word) = check-stops l x (unlessIdle l) _ _ i
 
 -- a completion that isn't of the operation under way: it comes only where STRAY refuses it
 abbrev pub strayStep : Setup → World → Completion → Step

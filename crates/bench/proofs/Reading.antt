@@ -24,10 +24,10 @@ use Rattle.engine_read.specs.Read.{no-entry}
 use Rattle.bench.specs.World.{World, lentBy}
 use Rattle.bench.specs.Book.{Page, Book, pages, least}
 use Rattle.bench.specs.Promise.{oldestFound, ofPage, andThen, entriesFrom, entriesAt, bookEntries, ReadsOn}
-use Rattle.bench.proofs.Invariant.{Holds, Has, HasOrBlank, Books}
-use Rattle.bench.proofs.BookPages.{Survey, empty, found, one-page, no-page, survey}
+use Rattle.bench.proofs.Invariant.{HoldsPage, Has, HasOrBlank, Books}
+use Rattle.bench.proofs.BookPages.{HeadersPages, empty, some-pages, one-page, none-or-some, headers-pages}
 use Rattle.bench.proofs.Appends.{last-open}
-use Rattle.bench.proofs.RestartKeeps.{has-slot, holds, has-none, has-near, Found}
+use Rattle.bench.proofs.RestartKeeps.{has-its-number, slot-holds, has-none, has-near, Recovers}
 use Rattle.bench.proofs.EntryReads.{placeOf, foundFrom, ReadsFrom, Reader, Within, found-broken, found-past, place-from, reads-end}
 use Rattle.bench.proofs.PageReads.{Shows, shows-buffer, shows-volume, Paged, page-end, blank-length, page-place, page-read}
 
@@ -42,7 +42,7 @@ module _ (g : Setup) (slots : ℕ → Option Page) where
       at k e (no d) = no (λ h. d (ap (λ (r : Page). r .number) (one-page e (h .there)) ∙ h .number))
 
       go : (o : Option Page) → slots (slotOf (g .n) m) ≡ o → Dec (Has g slots m)
-      go none e = no (λ h. no-page e (h .there))
+      go none e = no (λ h. none-or-some e (h .there))
       go (some k) e = at k e (ℕ-discrete (k .number) m)
 
   -- the entries from a page on that the book has
@@ -59,7 +59,7 @@ module _ (g : Setup) (slots : ℕ → Option Page) where
       go (some k) e = rw (ne-eqb (k .number) m (λ i. d (record { page = k; there = e; number = i })))
 
 -- what a restart found, with the read client set
-module _ {x : World} {b : Book} (q : Found (x .log .setup) x b) (client : x .log .read-client ≡ true) where
+module _ {x : World} {b : Book} (q : Recovers (x .log .setup) x b) (client : x .log .read-client ≡ true) where
   abbrev l : Log
   l = x .log
 
@@ -117,8 +117,8 @@ module _ {x : World} {b : Book} (q : Found (x .log .setup) x b) (client : x .log
     abbrev ms : List (List ℕ)
     ms = h .page .entries
 
-    has-holds : Holds g (x .volume) (slotOf (g .n) m) (h .page)
-    has-holds = holds bk (slotOf (g .n) m) (h .page) (mod-lt m (f .count)) (h .there)
+    has-holds : HoldsPage g (x .volume) (slotOf (g .n) m) (h .page)
+    has-holds = slot-holds bk (slotOf (g .n) m) (h .page) (mod-lt m (f .count)) (h .there)
 
     has-bytes : slotBytes p (slotOf (g .n) m) (x .volume) ≡ wholePage w p m ms
     has-bytes = has-holds .bytes ∙ ap (λ i. wholePage w p i ms) (h .number)
@@ -200,20 +200,20 @@ module _ {x : World} {b : Book} (q : Found (x .log .setup) x b) (client : x .log
 
   -- from the oldest ID on the book's entries are read
   from-oldest : ReadsFrom l lent (l .oldest) (l .kept) (bookEntries g b)
-  from-oldest = go refl (q .oldest) (survey g (x .volume) (b .slots) (bk .sizes) (bk .slots) (g .n) (omega arith))
+  from-oldest = go refl (q .oldest) (headers-pages g (x .volume) (b .slots) (bk .sizes) (bk .slots) (g .n) (omega arith))
     where
       within : Within l (l .oldest) (l .kept)
       within = record { read = reader .fits .ordered; kept = reader .fits .kept-most }
 
       go : {ids : Option Extent} {low : Option ℕ} {y : Option Page} → least (pages (g .n) (b .slots)) ≡ low → l .oldest ≡ oldestFound g low
-          → Survey p (b .slots) (g .n) ids low y → ReadsFrom l lent (l .oldest) (l .kept) (entriesAt (g .n) (b .slots) low)
+          → HeadersPages p (b .slots) (g .n) ids low y → ReadsFrom l lent (l .oldest) (l .kept) (entriesAt (g .n) (b .slots) low)
       go low i (empty e) =
           let es : k .entries ≡ [] = q .open-none (has-none bk e (k .number)) in
           let zeroth = ap (λ n. n * p) (q .open-zero low) in
           reads-end reader within
           (found-past l lent (l .oldest) (l .kept) (omega (arith, place-from l lent (l .oldest) (f .page), ends-at, ap (pageLength w) es)))
-      go low i (found {a = m} el eg bot top) =
-          let h : Has g (b .slots) m = subst (Has g (b .slots)) (bot .number) (has-slot bk (bot .slot) (bot .page) (bot .below) (bot .is)) in
+      go low i (some-pages {a = m} el eg bot top) =
+          let h : Has g (b .slots) m = subst (Has g (b .slots)) (bot .number) (has-its-number bk (bot .slot) (bot .page) (bot .below) (bot .is)) in
           let n : g .n ≡ suc (g .n - 1) = omega (arith, f .count) in
           let at = ap (placeOf l lent) i ∙ page-place reader (paged m h) (has-holds m h .some-entry) in
           subst (λ more. ReadsFrom l lent (l .oldest) (l .kept) (entriesFrom (g .n) (b .slots) more m)) (sym n)

@@ -32,9 +32,9 @@ use Rattle.bench_flash.specs.Event.{Restart}
 use Rattle.bench.specs.World.{World, restartedWorld}
 use Rattle.bench.specs.Book.{Page, Book, emptyPage, withOpen, allowed, fills, pages, newest, least, reopened}
 use Rattle.bench.specs.Promise.{bookOldest}
-use Rattle.bench.proofs.Invariant.{Holds, Has, HasOrBlank, Near, Books, Buffered, Running, idle}
+use Rattle.bench.proofs.Invariant.{HoldsPage, Has, HasOrBlank, Near, Books, Buffered, Running, idle}
 use Rattle.bench.proofs.BookSteps.{may-allowed, buffered-whole, buffered-opened, buffered-zero, books-none}
-use Rattle.bench.proofs.BookPages.{Top, Bottom, Survey, empty, found, one-page, no-page, survey}
+use Rattle.bench.proofs.BookPages.{Top, Bottom, HeadersPages, empty, some-pages, one-page, none-or-some, headers-pages}
 
 -- a page below an allowed one is allowed
 allowed-below : (g : Setup) {j k : ℕ} → j ≤ k → allowed g k ≡ true → allowed g j ≡ true
@@ -53,16 +53,16 @@ module _ {g : Setup} {volume : List ℕ} {b : Book} (bk : Books g volume b) wher
   f = facts (bk .sizes)
 
   -- what a slot with a page holds
-  pub holds : (s : ℕ) (k : Page) → s < g .n → b .slots s ≡ some k → Holds g volume s k
-  holds s k l e = rw e at (bk .slots s l)
+  pub slot-holds : (s : ℕ) (k : Page) → s < g .n → b .slots s ≡ some k → HoldsPage g volume s k
+  slot-holds s k l e = rw e at (bk .slots s l)
 
   -- so the book has it
-  pub has-slot : (s : ℕ) (k : Page) → s < g .n → b .slots s ≡ some k → Has g (b .slots) (k .number)
-  has-slot s k l e = record { page = k; there = ap (b .slots) (holds s k l e .slot) ∙ e; number = refl }
+  pub has-its-number : (s : ℕ) (k : Page) → s < g .n → b .slots s ≡ some k → Has g (b .slots) (k .number)
+  has-its-number s k l e = record { page = k; there = ap (b .slots) (slot-holds s k l e .slot) ∙ e; number = refl }
 
   -- where no slot has a page the book has none
   pub has-none : ((s : ℕ) → s < g .n → b .slots s ≡ none) → (m : ℕ) → Has g (b .slots) m → ⊥
-  has-none e m h = no-page (e (m % g .n) (mod-lt m (f .count))) (h .there)
+  has-none e m h = none-or-some (e (m % g .n) (mod-lt m (f .count))) (h .there)
 
   -- a page that the book has is no newer than the newest, and no older than the least
   has-top : {k : Page} → Top (b .slots) (g .n) k → (m : ℕ) → Has g (b .slots) m → m ≤ k .number
@@ -84,7 +84,7 @@ module _ {g : Setup} {volume : List ℕ} {b : Book} (bk : Books g volume b) wher
           absurd (omega (arith, h .number, y .number, f .count))
 
 -- the world and the book after a restart that isn't refused
-pub record Found (g : Setup) (x : World) (b : Book) : Type 0 where
+pub record Recovers (g : Setup) (x : World) (b : Book) : Type 0 where
   pub books : Books g (x .volume) b
   pub running : Running g x b
   pub at-rest : x .log .state ≡ Idle
@@ -123,7 +123,7 @@ module _ {g : Setup} (y : World) {b : Book} (bk : Books g (y .volume) b) (r : Re
 
   -- with no page in the book: "an empty page 0"
   found-empty : ((s : ℕ) → s < g .n → b .slots s ≡ none) → least (pages (g .n) (b .slots)) ≡ none → Fits none
-      → Found g (worldBy (done none)) (withOpen b (emptyPage 0))
+      → Recovers g (worldBy (done none)) (withOpen b (emptyPage 0))
   found-empty e low fit =
       record {
         books = books-none g b (bk .sizes) (bk .first) (bk .whole) (bk .slots) (has-none bk e);
@@ -146,14 +146,14 @@ module _ {g : Setup} (y : World) {b : Book} (bk : Books g (y .volume) b) (r : Re
   -- the newest page k of the book, the least number a, and the headers with them
   module _ {k : Page} {a : ℕ} (t : Top (b .slots) (g .n) k) (u : Bottom (b .slots) (g .n) a) (low : least (pages (g .n) (b .slots)) ≡ some a)
       {ids : Extent} (el : ids .least ≡ a * g .p) (eg : ids .greatest ≡ k .number * g .p) (fit : Fits (some ids)) where
-    its : Holds g (y .volume) (t .slot) k
-    its = holds bk (t .slot) k (t .below) (t .is)
+    its : HoldsPage g (y .volume) (t .slot) k
+    its = slot-holds bk (t .slot) k (t .below) (t .is)
 
     has-newest : Has g (b .slots) (k .number)
-    has-newest = has-slot bk (t .slot) k (t .below) (t .is)
+    has-newest = has-its-number bk (t .slot) k (t .below) (t .is)
 
     has-least : Has g (b .slots) a
-    has-least = rw (u .number) at (has-slot bk (u .slot) (u .page) (u .below) (u .is))
+    has-least = rw (u .number) at (has-its-number bk (u .slot) (u .page) (u .below) (u .is))
 
     -- a page that may be opened next: the newest, or an empty one after it
     record Opens (j : Page) : Type 0 where
@@ -190,7 +190,7 @@ module _ {g : Setup} (y : World) {b : Book} (bk : Books g (y .volume) b) (r : Re
           ap (λ (i : Page). i .entries) (one-page (h .there) at) ∙ sym (o .same (at-newest m h e))
 
       found-open : {append : ℕ} {page : List ℕ} → recovered g (k .number * g .p) (y .volume) (r .page) ≡ recoveredOf append page
-          → Buffered g page append j → Found g (worldBy (done (some ids))) (withOpen b j)
+          → Buffered g page append j → Recovers g (worldBy (done (some ids))) (withOpen b j)
       found-open {append} {page} e buffered =
           let rec : recovered g (ids .greatest) (y .volume) (r .page) ≡ recoveredOf append page = rw eg e in
           record {
@@ -235,7 +235,7 @@ module _ {g : Setup} (y : World) {b : Book} (bk : Books g (y .volume) b) (r : Re
     end = walkedId g (k .number * g .p) (y .volume)
 
     -- a restart that keeps the newest page open
-    found-kept : opensAfter g (k .number * g .p) (y .volume) ≡ false → Found g (worldBy (done (some ids))) (withOpen b k)
+    found-kept : opensAfter g (k .number * g .p) (y .volume) ≡ false → Recovers g (worldBy (done (some ids))) (withOpen b k)
     found-kept not-next =
         found-open k
         (record {
@@ -259,7 +259,7 @@ module _ {g : Setup} (y : World) {b : Book} (bk : Books g (y .volume) b) (r : Re
       may-next = ap (mayOpen g) next-end ∙ may-allowed g (bk .sizes) (k .number + 1)
 
       -- a restart that opensAfter it
-      found-next : allowed g (k .number + 1) ≡ true → Found g (worldBy (done (some ids))) (withOpen b (emptyPage (k .number + 1)))
+      found-next : allowed g (k .number + 1) ≡ true → Recovers g (worldBy (done (some ids))) (withOpen b (emptyPage (k .number + 1)))
       found-next may =
           let up = ap (roundUp (g .p)) next-end ∙ round-first _ (sizes .page) (mul-mod-left (k .number + 1) (g .p)) in
           found-open (emptyPage (k .number + 1))
@@ -276,21 +276,21 @@ module _ {g : Setup} (y : World) {b : Book} (bk : Books g (y .volume) b) (r : Re
           (buffered-opened g (bk .sizes) end (k .number + 1) up (r .page) (lengths .buffer))
 
     -- a restart with some page in the book
-    found-some : Found g (worldBy (done (some ids))) (withOpen b (reopened g (some k)))
+    found-some : Recovers g (worldBy (done (some ids))) (withOpen b (reopened g (some k)))
     found-some = go (fills g k) refl (allowed g (k .number + 1)) refl
       where
         go : (c : Bool) → fills g k ≡ c → (d : Bool) → allowed g (k .number + 1) ≡ d
-            → Found g (worldBy (done (some ids))) (withOpen b (pick c (pick d (emptyPage (k .number + 1)) k) k))
+            → Recovers g (worldBy (done (some ids))) (withOpen b (pick c (pick d (emptyPage (k .number + 1)) k) k))
         go true q true v = found-next (eqb-true _ _ q) v
         go true q false v = found-kept (opens-not g _ _ (r .page) (may-next (eqb-true _ _ q) ∙ v))
         go false q d v = found-kept (opens-partial g _ _ (r .page) (λ z. eqb-false _ _ q (sym newest-walk ∙ z)))
 
   -- after a restart that isn't refused, the log is where the book says
-  pub restored : Found g (worldBy (done (headers g (y .volume)))) (withOpen b (reopened g (newest (pages (g .n) (b .slots)))))
+  pub restored : Recovers g (worldBy (done (headers g (y .volume)))) (withOpen b (reopened g (newest (pages (g .n) (b .slots)))))
   unfolding validIds
-  restored = go refl (survey g (y .volume) (b .slots) (bk .sizes) (bk .slots) (g .n) (omega arith)) fits
+  restored = go refl (headers-pages g (y .volume) (b .slots) (bk .sizes) (bk .slots) (g .n) (omega arith)) fits
     where
-      go : {h : Option Extent} {l : Option ℕ} {k : Option Page} → least (pages (g .n) (b .slots)) ≡ l → Survey (g .p) (b .slots) (g .n) h l k
-          → Fits h → Found g (worldBy (done h)) (withOpen b (reopened g k))
+      go : {h : Option Extent} {l : Option ℕ} {k : Option Page} → least (pages (g .n) (b .slots)) ≡ l → HeadersPages (g .p) (b .slots) (g .n) h l k
+          → Fits h → Recovers g (worldBy (done h)) (withOpen b (reopened g k))
       go low (empty e) s = found-empty e low s
-      go low (found el eg u t) s = found-some t u low el eg s
+      go low (some-pages el eg u t) s = found-some t u low el eg s

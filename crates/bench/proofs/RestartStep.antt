@@ -17,17 +17,17 @@ use Rattle.bench.specs.World.{World, lentBy, restartedWorld, restartNumb
 use Rattle.bench.specs.Book.{Book, restarted}
 use Rattle.bench.specs.Promise.{ReadsOn, bookEntries, Bench, Finds}
 use Rattle.bench.proofs.Invariant.{Books, Inv}
-use Rattle.bench.proofs.RestartKeeps.{Found, restored}
+use Rattle.bench.proofs.RestartKeeps.{Recovers, restored}
 use Rattle.bench.proofs.Reading.{reads-on}
 
 -- what it has found is what is promised
-promised : {g : Setup} {x : World} {b : Book} → Found g x b → Finds g (record { world = x; book = b })
+promised : {g : Setup} {x : World} {b : Book} → Recovers g x b → Finds g (record { world = x; book = b })
 promised {g} {x} {b} q = record {
   oldest = q .oldest;
   read = q .read;
   append = q .running .buffer .appends;
   entries = λ client.
-      subst (λ (h : Setup). Found h x b → ReadsOn (lentBy x) (x .log) (bookEntries h b)) (q .running .setup) (λ q'. reads-on q' client) q;
+      subst (λ (h : Setup). Recovers h x b → ReadsOn (lentBy x) (x .log) (bookEntries h b)) (q .running .setup) (λ q'. reads-on q' client) q;
 }
 
 -- what a restart with an answer gives: the invariant, and what it finds

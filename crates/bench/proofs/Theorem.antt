@@ -18,7 +18,7 @@ use Rattle.bench.specs.World.{World, unended, Step, quiet, endedBy, endi
 use Rattle.bench.specs.Book.{Book, emptyBook, leftIn, entryOf, waits, recorded}
 use Rattle.bench.specs.Promise.{Bench, stepped, steppedAll, Clear, AllClear, NoHeader, Promised, AllPromised, start}
 use Rattle.bench.proofs.Invariant.{Powered, Running, Inv, After}
-use Rattle.bench.proofs.BookPages.{no-page}
+use Rattle.bench.proofs.BookPages.{none-or-some}
 use Rattle.bench.proofs.BookSteps.{books-none, books-ended}
 use Rattle.bench.proofs.CutStep.{call-step, completion-step, cut-step}
 use Rattle.bench.proofs.RestartStep.{restart-keeps}
@@ -96,7 +96,7 @@ list-inv {g} s i (e ∷ es) clear = list-inv (stepped g s e) (step-keeps s i e (
 pub start-inv : (g : Setup) (l : Log) (volume page hold : List ℕ) → Sized g → g .first ≤ 16_777_215 → length volume ≡ g .n * g .p → NoHeader g volume
     → Inv g (start l volume page hold .world) (start l volume page hold .book)
 start-inv g l volume page hold z first whole none-valid =
-    record { books = books-none g emptyBook z first whole none-valid (λ m h. no-page refl (h .there)); powered = refl }
+    record { books = books-none g emptyBook z first whole none-valid (λ m h. none-or-some refl (h .there)); powered = refl }
 
 -- sizes that SHAPE refuses, or a volume of another length: every restart is refused, and nothing else ever happens
 record Dead (g : Setup) (x : World) : Type 0 where

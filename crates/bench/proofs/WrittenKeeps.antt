@@ -25,7 +25,7 @@ use Rattle.bench.specs.Promise.{Clear}
 use Rattle.bench.proofs.Invariant.{Has, Live, Books, Buffered, Oldest, Writes, UnderIn, idle, Running, Inv, After}
 use Rattle.bench.proofs.BookSteps.{Elsewhere, slot-same, has-left, has-put, buffered-opened, books-new, books-next, books-ended}
 use Rattle.bench.proofs.Appends.{append-round}
-use Rattle.bench.proofs.Gates.{gate-passes, goes, runs}
+use Rattle.bench.proofs.Gates.{gate-passes, check-passes, runs}
 
 -- the world in which the operation op has ended
 abbrev pub endedWorld : World → Operation → Left → World
@@ -70,7 +70,7 @@ module _ {x : World} {b : Book} (bk : Books (x .log .setup) (x .volume) b) (r : 
       let y : Lent = lentThen x op c left in
       let body : Done = endOf (x .log) y c in
       let pass = gate-passes (books-ended bk u (leftAfter (endsWell c) left)) r in
-      let is : complete (x .log) y c ≡ body = complete-is (x .log) y c ∙ goes (x .log) y (unlessDue (x .log) c) [] body t ∙ runs (x .log) y body pass in
+      let is : complete (x .log) y c ≡ body = complete-is (x .log) y c ∙ check-passes (x .log) y (unlessDue (x .log) c) [] body t ∙ runs (x .log) y body pass in
       subst (Ends x b op c left) (sym is) ends clear (complete-keeps (x .log) y c (r .fits))
 
   -- the log is idle again with the volume as it was left, and nothing else moved but what is kept
@@ -86,7 +86,7 @@ module _ {x : World} {b : Book} (bk : Books (x .log .setup) (x .volume) b) (r : 
 
   -- the book with other slots
   abbrev withSlots : (ℕ → Option Page) → Book
-  withSlots slots = record { slots = slots; open-page = b .open-page; waiting = b .waiting; erasing = b .erasing }
+  withSlots slots = record { slots = slots; open-page = b .open-page; waiting = b .waiting; erase-slot = b .erase-slot }
 
   module _ {volume : List ℕ} (kept : ℕ) (fits : stateFits (rested volume kept .log) ≡ true) where
     rest-inv : (slots : ℕ → Option Page) → Books g volume (withSlots slots) → ((m : ℕ) → Has g slots m → Live g (b .open-page) (r .oldest .page) m)

@@ -21,7 +21,7 @@ use Rattle.bench_flash.specs.Event.{Restart, Event, cut, restart}
 use Rattle.bench.specs.World.{World, lentBy, Step, restartedWorld, step}
 use Rattle.bench.specs.Promise.{Bench, Finds}
 use Rattle.bench.proofs.Theorem.{further}
-use Rattle.bench_step.specs.Step.{inPlace, restarts}
+use Rattle.bench_step.specs.Step.{inPlace, restartsAfter}
 use Rattle.bench_step.proofs.Steps.{cut-first}
 use Rattle.bench_run.specs.Entries.{ReadsOut, ReadOut, laid}
 use Rattle.bench_run.specs.Run.{unstarted, after, again, FoundLog, MatchesBook, Ran, Runs, list-ran}
@@ -59,7 +59,7 @@ module _ (g : Setup) (append-client : Bool) where
       let r : Restart = inPlace left true append-client x in
       let over : Step = step g x (cut left) in
       let volume : List ℕ = over .world .volume in
-      let same : restarts g over r ≡ step g x (restart r) = cut-first g x r over refl refl in
+      let same : restartsAfter g over r ≡ step g x (restart r) = cut-first g x r over refl refl in
       let d : RestartDone = log.restart g true append-client (lend volume (x .page) (x .hold)) in
       let stays = ap (λ (s : Step). s .world .volume) (sym same) ∙ volume-stays (over .world) (d .page) (x .hold) (d .answer) in
       let yes : shapeFits g (length volume) (length (x .page)) (length (x .hold)) ≡ true = rw stays at fit in

@@ -22,7 +22,7 @@ use Rattle.engine_call.specs.Outcome.{Lent, Done}
 use Rattle.engine_call.proofs.Checks.{through}
 use Rattle.engine_read.specs.Read.{read, readBuffer}
 use Rattle.engine_laws.proofs.ReadRows.{read-gives, unread}
-use Rattle.bench_run.specs.Entries.{reading, entryRead, afterwards, Roomy, laid, next-entry, next-ends, NextRead, no-more, reads}
+use Rattle.bench_run.specs.Entries.{reading, entryRead, afterwards, Roomy, laid, next-entry, next-ends, NextRead, no-more, one-more}
 
 -- zeros past an offset, and bytes written to their front
 drop-zeros : (a n : ℕ) → a ≤ n → drop {A = ℕ} a (replicate n 0) ≡ replicate (n - a) 0
@@ -60,8 +60,8 @@ pub record Given (x : Lent) (l : Log) (room : ℕ) : Type 0 where
   pub fits : length (entryRead x l room) + 2 * l .setup .w ≤ l .setup .p
   pub rest : readBuffer l x (replicate room 0) (l .setup .p) ≡ entryRead x l room ++ replicate (room - length (entryRead x l room)) 0
 
-pub given : (x : Lent) (l : Log) (room : ℕ) → reading x l room .outcome .answer ≡ OK → Given x l room
-given x l room ok =
+pub entry-given : (x : Lent) (l : Log) (room : ℕ) → reading x l room .outcome .answer ≡ OK → Given x l room
+entry-given x l room ok =
     let p = l .setup .p in
     let zeros : List ℕ = replicate room 0 in
     let n : length zeros ≡ room = length-replicate room 0 in
@@ -106,8 +106,8 @@ module _ (x : Lent) (l : Log) (out : List ℕ) where
         let zeros : rest ≡ replicate room 0 = rest-lent w out ∙ ap (drop w) z ∙ drop-zeros w (length out) (omega arith) in
         let said : d ≡ reading x l room = c .0 ∙ ap (λ k. read l x k (l .setup .p)) (ap length zeros ∙ length-replicate room 0) in
         let ok : reading x l room .outcome .answer ≡ OK = ap (λ (d : Done). d .outcome .answer) (sym said) ∙ q in
-        let g = given x l room ok in
+        let g = entry-given x l room ok in
         let size : d .outcome .log .kept ≡ length (entryRead x l room) = ap (λ (d : Done). d .outcome .log .kept) said ∙ sym (g .size) in
         let back = rest-back w out bytes' ∙ ap (λ b. take w out ++ b) (c .1 ∙ ap (λ b. readBuffer l x b (l .setup .p)) zeros ∙ g .rest) in
-        reads h ok (a ∙ ap (λ (d : Done). afterwards x (d .outcome .log)) said) size
+        one-more h ok (a ∙ ap (λ (d : Done). afterwards x (d .outcome .log)) said) size
         (f ∙ word-before w out _ (entryRead x l room) _ (omega arith) back size)

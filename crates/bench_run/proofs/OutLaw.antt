@@ -17,9 +17,9 @@ use Rattle.engine_state.specs.declared.state.Log as code
 use Rattle.engine_state.specs.Log.{logOf}
 use Rattle.engine_call.specs.Outcome.{Lent}
 use Rattle.bench_run.specs.Entries.{entryRead, ReadsOut, out-full, out-ends, out-goes, laid}
-use Rattle.bench_run.specs.Entries.{next-entry, next-ends, next-full, NextRead, no-room, no-more, reads}
+use Rattle.bench_run.specs.Entries.{next-entry, next-ends, next-full, NextRead, no-room, no-more, one-more}
 use Rattle.bench_run.specs.Entries.{ReadOut}
-use Rattle.bench_run.proofs.NextLaw.{rest-lent, rest-back, given}
+use Rattle.bench_run.proofs.NextLaw.{rest-lent, rest-back, entry-given}
 
 -- the buffer with entries: its length, its rest, and an entry more
 module _ (w n : ℕ) (es : List (List ℕ)) where
@@ -39,7 +39,7 @@ module _ (w n : ℕ) (es : List (List ℕ)) where
       (sym (append-assoc (encodeAll w es) (encodeAll w (e ∷ [])) (replicate m 0)))
 
 -- what has been read from a log into n zeros: the buffer, the log then, how many entries, and how many bytes they take up
-pub record Sofar (w : ℕ) (x : Lent) (l : code.Log) (n : ℕ) (out : List ℕ) (current : code.Log) (count at : ℕ) : Type 0 where
+pub record ReadSofar (w : ℕ) (x : Lent) (l : code.Log) (n : ℕ) (out : List ℕ) (current : code.Log) (count at : ℕ) : Type 0 where
   pub entries : List (List ℕ)
   pub number : count ≡ length entries
   pub total : at ≡ entriesLength w entries
@@ -52,7 +52,7 @@ pub record Sofar (w : ℕ) (x : Lent) (l : code.Log) (n : ℕ) (out : List ℕ) 
 
 module _ {w : ℕ} {x : Lent} where
   -- nothing is read
-  pub sofar-starts : (l : code.Log) (out : List ℕ) → length out < 2 ^ 64 → out ≡ replicate (length out) 0 → Sofar w x l (length out) out l 0 0
+  pub sofar-starts : (l : code.Log) (out : List ℕ) → length out < 2 ^ 64 → out ≡ replicate (length out) 0 → ReadSofar w x l (length out) out l 0 0
   sofar-starts l out b z =
       record {
         entries = [];
@@ -66,7 +66,7 @@ module _ {w : ℕ} {x : Lent} where
         onward = λ es whole r. subst (λ k. ReadsOut x (logOf w l) k es whole) (sub-zero (length out)) r;
       }
 
-  module _ {l : code.Log} {n : ℕ} {out : List ℕ} {current : code.Log} {count at : ℕ} (s : Sofar w x l n out current count at) where
+  module _ {l : code.Log} {n : ℕ} {out : List ℕ} {current : code.Log} {count at : ℕ} (s : ReadSofar w x l n out current count at) where
     -- the rest of the buffer
     abbrev rest : List ℕ
     rest = midOf at (length out - at) out
@@ -82,10 +82,10 @@ module _ {w : ℕ} {x : Lent} where
 
     -- an entry more
     pub sofar-goes : {part' : List ℕ} {next : code.Log} {size : ℕ} → Width w → NextRead x (logOf w current) rest part' (next-entry (logOf w next) size)
-        → Sofar w x l n (putMid at (length out - at) out part') next (count + 1) (at + (w + size))
-    sofar-goes {part'} {next} {size} v (reads h ok log long f) =
+        → ReadSofar w x l n (putMid at (length out - at) out part') next (count + 1) (at + (w + size))
+    sofar-goes {part'} {next} {size} v (one-more h ok log long f) =
         let e : List ℕ = entryRead x (logOf w current) (length rest - w) in
-        let g = given x (logOf w current) (length rest - w) ok in
+        let g = entry-given x (logOf w current) (length rest - w) ok in
         let total : at + (w + size) ≡ entriesLength w (s .entries ++ (e ∷ [])) = omega (arith, s .total, long, entriesLength-append w (s .entries) (e ∷ [])) in
         let fits : at + (w + size) ≤ n = omega (arith, s .fits, h, long, g .fits, rest-room) in
         let leaves : putMid at (length out - at) out part' ≡ laid w n (s .entries ++ (e ∷ [])) =
@@ -106,7 +106,7 @@ module _ {w : ℕ} {x : Lent} where
         }
 
   -- no entry more
-  module _ {l : code.Log} {begun out : List ℕ} {current : code.Log} {count at : ℕ} (s : Sofar w x l (length begun) out current count at) {part' : List ℕ} where
+  module _ {l : code.Log} {begun out : List ℕ} {current : code.Log} {count at : ℕ} (s : ReadSofar w x l (length begun) out current count at) {part' : List ℕ} where
     sofar-ends : {whole : Bool} → ReadsOut x (logOf w current) (length (rest s)) [] whole → part' ≡ rest s
         → ReadOut x (logOf w l) count at whole begun (putMid at (length out - at) out part')
     sofar-ends {whole} r e =

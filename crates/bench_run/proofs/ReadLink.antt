@@ -21,25 +21,25 @@ use Rattle.bench.specs.Promise.{ReadsOn, on-ends, on-goes}
 use Rattle.bench_run.specs.Entries.{reading, entryRead, afterwards, Roomy, ReadsOut, out-full, out-ends, out-goes, fitting}
 
 -- what is read into `room` bytes is what fits of the entries that are promised: all of them, where it goes to FAIL, and else as many as there is room for
-pub record Fits (s : Setup) (room : ℕ) (es fs : List (List ℕ)) (whole : Bool) : Type 0 where
+pub record ReadFits (s : Setup) (room : ℕ) (es fs : List (List ℕ)) (whole : Bool) : Type 0 where
   pub same : fs ≡ fitting s room es
   pub all : whole ≡ true → fs ≡ es
   pub front : whole ≡ false → room < entriesLength (s .w) fs + (s .w + s .p)
 
 -- nothing more is read
-fits-full : (s : Setup) (room : ℕ) (es : List (List ℕ)) → room < s .w + s .p → Fits s room es [] false
+fits-full : (s : Setup) (room : ℕ) (es : List (List ℕ)) → room < s .w + s .p → ReadFits s room es [] false
 fits-full s room es h = record { same = nothing es; all = λ e. absurd (true≢false (sym e)); front = λ e. omega arith }
   where
     nothing : (es : List (List ℕ)) → [] ≡ fitting s room es
     nothing [] = refl
     nothing (e ∷ es) = rw (lt-ltb room (s .w + s .p) h)
 
-fits-ends : (s : Setup) (room : ℕ) {whole : Bool} → whole ≡ true → Fits s room [] [] whole
+fits-ends : (s : Setup) (room : ℕ) {whole : Bool} → whole ≡ true → ReadFits s room [] [] whole
 fits-ends s room t = record { same = refl; all = λ e. refl; front = λ e. absurd (true≢false (sym t ∙ e)) }
 
 -- an entry more is read
 fits-more : (s : Setup) (room : ℕ) {e d : List ℕ} {es fs : List (List ℕ)} {whole : Bool} → Roomy s room → d ≡ e
-    → Fits s (room - (s .w + length d)) es fs whole → Fits s room (e ∷ es) (d ∷ fs) whole
+    → ReadFits s (room - (s .w + length d)) es fs whole → ReadFits s room (e ∷ es) (d ∷ fs) whole
 fits-more s room {e} {d} {es} {fs} h q r = record {
   same = rw (le-ltb room (s .w + s .p) h, r .same, q);
   all = λ t. rw (r .all t, q);
@@ -81,7 +81,7 @@ reported l x {n} =
     other e = let z : _≡_ {A = ℕ} 0 1 = cc in absurd (omega arith)
 
 pub read-fitting : {x : Lent} {l : Log} {es fs : List (List ℕ)} {room : ℕ} {whole : Bool} → ReadsOn x l es → ReadsOut x l room fs whole
-    → Fits (l .setup) room es fs whole
+    → ReadFits (l .setup) room es fs whole
 read-fitting {x} {l} {es} (on-ends f) (out-full {room = room} h) = fits-full (l .setup) room [] h
 read-fitting {x} {l} (on-ends f) (out-ends {room = room} h n) =
     fits-ends (l .setup) room (ap (λ a. eqb a FAIL) (ap (λ d. d .outcome .answer) (sym (reading-is x l room h)) ∙ f (zeros x l room h) (long x l room h)))

@@ -64,7 +64,7 @@ pub data NextRead (x : Lent) (l : Log) (out out' : List ℕ) : Next → Type 0 w
   no-room : length out < l .setup .w + l .setup .p → out' ≡ out → NextRead x l out out' next-full
   no-more : {a : ℕ} → Roomy (l .setup) (length out) → a ≡ reading x l (length out - l .setup .w) .outcome .answer → (a ≡ OK → ⊥) → out' ≡ out
       → NextRead x l out out' (next-ends a)
-  reads : {next : Log} {size : ℕ} → Roomy (l .setup) (length out) → reading x l (length out - l .setup .w) .outcome .answer ≡ OK
+  one-more : {next : Log} {size : ℕ} → Roomy (l .setup) (length out) → reading x l (length out - l .setup .w) .outcome .answer ≡ OK
       → next ≡ afterwards x (reading x l (length out - l .setup .w) .outcome .log) → size ≡ length (entryRead x l (length out - l .setup .w))
       → out' ≡ laid (l .setup .w) (length out) (entryRead x l (length out - l .setup .w) ∷ []) → NextRead x l out out' (next-entry next size)
 

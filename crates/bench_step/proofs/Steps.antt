@@ -21,7 +21,7 @@ use Rattle.bench_flash.specs.declared.event.Call as code
 use Rattle.bench_flash.specs.declared.event.Call.the-variants as c
 use Rattle.bench_flash.specs.Event.{Event, Restart, cut, restart, callOf}
 use Rattle.bench.specs.World.{World, Told, Step, ends, completionStep, undelivered, stepOn, stepOff, step}
-use Rattle.bench_step.specs.Step.{endStep, comes, restarts}
+use Rattle.bench_step.specs.Step.{endStep, comes, restartsAfter}
 
 -- an event by the power
 pub on : (g : Setup) (x : World) (e : Event) → x .power ≡ true → step g x e ≡ stepOn g x e
@@ -48,11 +48,11 @@ comes-due g x k left l over due well ended e = e ∙ ap (λ (o : Step). comes g 
 
 -- a restart is a cut first
 pub cut-first : (g : Setup) (x : World) (r : Restart) (over : Step) {s : Step}
-    → over ≡ step g x (cut (r .left)) → s ≡ restarts g over r → s ≡ step g x (restart r)
+    → over ≡ step g x (cut (r .left)) → s ≡ restartsAfter g over r → s ≡ step g x (restart r)
 unfolding step
-cut-first g x r over ended e = e ∙ ap (λ (o : Step). restarts g o r) ended ∙ go (x .power)
+cut-first g x r over ended e = e ∙ ap (λ (o : Step). restartsAfter g o r) ended ∙ go (x .power)
   where
-    go : (t : Bool) → restarts g (pick t (endStep g x false (r .left)) (undelivered x)) r ≡ pick t (stepOn g x (restart r)) (stepOff g x (restart r))
+    go : (t : Bool) → restartsAfter g (pick t (endStep g x false (r .left)) (undelivered x)) r ≡ pick t (stepOn g x (restart r)) (stepOff g x (restart r))
     go true = refl
     go false = refl
 
@@ -75,10 +75,10 @@ refused-keeps g read-client append-client x {a} {page} = go (shapeFits g (length
 -- a restart that SHAPE lets through is the same with its buffers copied before
 pub starts-anew : (g : Setup) (x : World) (told : Told) (r : Restart) {page hold : List ℕ} {s : Step}
     → shapeFits g (length (x .volume)) (length (r .page)) (length (r .hold)) ≡ true → page ≡ r .page → hold ≡ r .hold
-    → s ≡ restarts g
+    → s ≡ restartsAfter g
     (record { world = record { power = x .power; log = x .log; page = page; hold = hold; volume = x .volume; operation = x .operation }; told = told })
     (record { left = r .left; read-client = r .read-client; append-client = r .append-client; page = page; hold = hold })
-    → s ≡ restarts g (record { world = x; told = told }) r
+    → s ≡ restartsAfter g (record { world = x; told = told }) r
 unfolding log.restart
 starts-anew g x told r fit p h e =
     e ∙ rw (p, h, fit, started-log g (r .read-client) (r .append-client) (lend (x .volume) (r .page) (r .hold)) (headers g (x .volume)))

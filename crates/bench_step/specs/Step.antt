@@ -77,8 +77,8 @@ inPlace left read-client append-client x = record {
 }
 
 -- a restart after a cut, or with the power off
-abbrev pub restarts : Setup → Step → Restart → Step
-restarts g s r = restartStep g (s .world) (s .told .ended) r
+abbrev pub restartsAfter : Setup → Step → Restart → Step
+restartsAfter g s r = restartStep g (s .world) (s .told .ended) r
 
 -- what a call leaves in the buffer of a read: only a read fills it
 abbrev pub callBuffer : Log → Lent → Call → List ℕ → List ℕ

@@ -15,7 +15,7 @@ ghost use Rattle.bench_flash.specs.Event as event;
 ghost use Rattle.bench_flash.specs.Event.{restartOf};
 ghost use Rattle.bench.specs.World as bench;
 ghost use Rattle.bench.specs.World.{restartedWorld};
-ghost use Rattle.bench_step.specs.Step.{givenSetup, worldOf, stepOf, endStep, inPlace, restarts};
+ghost use Rattle.bench_step.specs.Step.{givenSetup, worldOf, stepOf, endStep, inPlace, restartsAfter};
 use crate::world;
 use crate::world::Delivery;
 use crate::world::Ended;
@@ -96,7 +96,7 @@ pub fn restart(
 ) -> Step
     ensures { λ r. ⌜ ((left : flash.Left) → let g = givenSetup setup in
         let s = stepOf g off (now (page .entry)) (now (hold .entry)) (now (volume .entry)) in
-        stepOf g r (now (page .exit)) (s .world .hold) (s .world .volume) ≡ restarts g s (inPlace left «read_client» «append_client» (s .world))) ⌝ }
+        stepOf g r (now (page .exit)) (s .world .hold) (s .world .volume) ≡ restartsAfter g s (inPlace left «read_client» «append_client» (s .world))) ⌝ }
 {
     let told = off.told;
     let ended = told.ended;

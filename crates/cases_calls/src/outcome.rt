@@ -72,7 +72,7 @@ fn log(l: Log) {
 pub(crate) fn line(names: &[u8], k: usize, o: Outcome) -> Log {
     print::label(names, k);
     let answer = o.answer;
-    print::number(answer::answer_number(answer));
+    print::number(answer::answer_number(answer) as usize);
     let r = o.report;
     report(r);
     let q = o.request;

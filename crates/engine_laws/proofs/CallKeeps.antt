@@ -12,13 +12,13 @@ use Rattle.engine_call.specs.Gate.{gate}
 use Rattle.engine_call.proofs.Gates.{shaped}
 use Rattle.engine_laws.specs.Call.{call, complete}
 use Rattle.engine_laws.proofs.Calls.{checksOf, bodyOf, endOf, by-call, by-complete}
-use Rattle.engine_laws.proofs.StateKit.{Fits, flush-fits, state-set}
+use Rattle.engine_laws.proofs.StateKit.{LeavesState, flush-fits, state-set}
 use Rattle.engine_laws.proofs.WritesKeep.{append-fits, write-fits}
 use Rattle.engine_laws.proofs.ReadsKeep.{read-fits, seek-fits}
 use Rattle.engine_laws.proofs.ErasesKeep.{erase-fits}
 
 -- the state after a body satisfies STATE
-body-fits : (l : Log) (x : Lent) (c : Call) → gate l x ≡ none → StateFits l → firstOf (checksOf l c) ≡ none → Fits (bodyOf l x c)
+body-fits : (l : Log) (x : Lent) (c : Call) → gate l x ≡ none → StateFits l → firstOf (checksOf l c) ≡ none → LeavesState (bodyOf l x c)
 unfolding keptFits
 body-fits l x (append bytes n word) h s p = append-fits l (shaped l _ _ _ h .sizes) s x bytes n word p
 body-fits l x (sync word) h s p = flush-fits l (shaped l _ _ _ h .sizes) s x Sync (l .kept) word (s .kept-most) refl
@@ -27,7 +27,7 @@ body-fits l x (seek id) h s p = seek-fits l s x id p
 body-fits l x deferred h s p = state-set s Idle refl
 body-fits l x (erase word) h s p = state-set s Erase refl
 
-end-fits : (l : Log) (x : Lent) (c : Completion) → gate l x ≡ none → StateFits l → Fits (endOf l x c)
+end-fits : (l : Log) (x : Lent) (c : Completion) → gate l x ≡ none → StateFits l → LeavesState (endOf l x c)
 end-fits l x (write-ended good) h s = let g = shaped l _ _ _ h in write-fits l (g .sizes) s x good (omega (arith, g .held, s .kept-most))
 end-fits l x (erase-ended good word) h s = erase-fits l (shaped l _ _ _ h .sizes) s x good word
 

@@ -16,16 +16,16 @@ use Rattle.engine_call.proofs.Checks.{through}
 use Rattle.engine_read.specs.Read.{readRuns}
 use Rattle.engine_read.specs.Seek.{seekChecks, seekRuns}
 use Rattle.engine_read.proofs.ReadLaws.{next-below}
-use Rattle.engine_laws.proofs.ReadRows.{Reads, cancels, unset, at-end, bad-header, too-long, good, reads}
-use Rattle.engine_laws.proofs.StateKit.{Fits, moved-fits, oldest-stays}
+use Rattle.engine_laws.proofs.ReadRows.{Reads, beyond, unset, at-end, bad-header, too-long, good, read-runs}
+use Rattle.engine_laws.proofs.StateKit.{LeavesState, moved-fits, oldest-kept}
 
 -- the state after a read satisfies STATE
 pub read-fits : (l : Log) → Sized (l .setup) → StateFits l → (x : Lent) (n : ℕ) → StateFits (readRuns l x n .outcome .log)
 unfolding keptFits
-read-fits l z s x n = go (reads l x n)
+read-fits l z s x n = go (read-runs l x n)
   where
-    go : {d : Done} → Reads l x n d → Fits d
-    go (cancels b) = moved-fits s (l .state) (oldest-stays s) (l .oldest) (l .kept) (omega (arith, s .ordered, s .limited)) (s .kept-most) (s .kept-some)
+    go : {d : Done} → Reads l x n d → LeavesState d
+    go (beyond b) = moved-fits s (l .state) (oldest-kept s) (l .oldest) (l .kept) (omega (arith, s .ordered, s .limited)) (s .kept-most) (s .kept-some)
     go (unset b e) = s
     go (at-end k e) = s
     go (bad-header k id e i) = s
@@ -37,11 +37,11 @@ read-fits l z s x n = go (reads l x n)
         let t = lengthy (l .setup .w) p (l .append) (x .volume) (x .page) id i in
         let below = next-below (l .setup .w) p (l .append) (x .volume) (x .page) (l .read) e in
         let top : id / p * p + p ≤ ceiling (l .setup .w) = f .ceiling-page (id / p) (omega (arith, s .limited)) in
-        moved-fits s Read (oldest-stays s) (id + l .setup .w + size) size (omega arith) (t .most) refl
+        moved-fits s Read (oldest-kept s) (id + l .setup .w + size) size (omega arith) (t .most) refl
 
 -- the state after a seek that through its checks satisfies STATE
 pub seek-fits : (l : Log) → StateFits l → (x : Lent) (id : ℕ) → firstOf (seekChecks l id) ≡ none → StateFits (seekRuns l x id .outcome .log)
 unfolding keptFits
 seek-fits l s x id e =
     let inside = both (leb (l .oldest) id) (leb id (l .append)) (not-false _ (through (seekChecks l id) e .1 .0)) in
-    moved-fits s Seek (oldest-stays s) id (l .kept) (omega (arith, s .limited, leb-true id (l .append) (inside .1))) (s .kept-most) refl
+    moved-fits s Seek (oldest-kept s) id (l .kept) (omega (arith, s .limited, leb-true id (l .append) (inside .1))) (s .kept-most) refl

@@ -21,9 +21,9 @@ abbrev gives : Option ℕ → ℕ → Bool
 gives none a = false
 gives (some b) a = eqb b a
 
-abbrev pub passes : Option ℕ → Bool
-passes none = true
-passes (some b) = false
+abbrev pub letsThrough : Option ℕ → Bool
+letsThrough none = true
+letsThrough (some b) = false
 
 -- where checks refuse with a number, by their tests; and whether one of them has it
 abbrev pub when : List Stop → ℕ → Bool
@@ -35,9 +35,9 @@ has [] a = false
 has (c ∷ cs) a = pick (eqb (c .answer) a) true (has cs a)
 
 -- what `when` computes to where one check has the number: its test holds, after others that fail
-abbrev pub after : List Bool → Bool → Bool
-after [] t = t
-after (s ∷ ss) t = after ss t && not s
+abbrev pub afterFailing : List Bool → Bool → Bool
+afterFailing [] t = t
+afterFailing (s ∷ ss) t = afterFailing ss t && not s
 
 -- checks refuse with a number exactly where their tests say
 gives-when : (cs : List Stop) (a : ℕ) → gives (firstOf cs) a ≡ when cs a
@@ -62,12 +62,12 @@ absent (c ∷ cs) a h = go (eqb (c .answer) a) h (λ i. absent cs a i)
     go false h f = rw (f h)
 
 -- where a body after checks gives a number, of those that it may answer
-abbrev pub listed : List ℕ → ℕ → Bool
-listed [] a = false
-listed (b ∷ bs) a = pick (eqb b a) true (listed bs a)
+abbrev pub among : List ℕ → ℕ → Bool
+among [] a = false
+among (b ∷ bs) a = pick (eqb b a) true (among bs a)
 
 abbrev pub givenBy : List Stop → List ℕ → Done → ℕ → Bool
-givenBy cs bs body a = listed bs a && (passes (firstOf cs) && eqb (body .outcome .answer) a)
+givenBy cs bs body a = among bs a && (letsThrough (firstOf cs) && eqb (body .outcome .answer) a)
 
 -- a row of a call that gives d: where it is refused with a, leaving everything as before; where its body gives a; and it answers a nowhere else
 pub record Row (l : Log) (x : Lent) (d body : Done) (a : ℕ) (refused given : Bool) : Type 0 where
@@ -115,23 +115,23 @@ module _ (l : Log) (x : Lent) (cs : List Stop) (body : Done) {d : Done} (h : d �
       go (some b) f =
           absurd (false≢true (sym (absent checks a m) ∙ sym (gives-when checks a) ∙ ap (λ (k : Option ℕ). gives k a) f ∙ eq-eqb b a (sym (answers-as f) ∙ q)))
 
-  module _ (bs : List ℕ) (i : listed bs (body .outcome .answer) ≡ true) where
+  module _ (bs : List ℕ) (i : among bs (body .outcome .answer) ≡ true) where
     -- every row of a call whose body answers one of bs
     pub row : (a : ℕ) → Row l x d body a (when checks a) (givenBy checks bs body a)
     row a = subst (λ (w : Bool). Row l x d body a w (givenBy checks bs body a)) (gives-when checks a) (go (firstOf checks) refl)
       where
-        go : (k : Option ℕ) → firstOf checks ≡ k → Row l x d body a (gives k a) (listed bs a && (passes k && eqb (body .outcome .answer) a))
+        go : (k : Option ℕ) → firstOf checks ≡ k → Row l x d body a (gives k a) (among bs a && (letsThrough k && eqb (body .outcome .answer) a))
         go none f = record {
           refuses = λ w. absurd (false≢true w);
-          runs = λ g. (by-check f, eqb-true _ _ (both (listed bs a) _ g .1));
-          only = λ q. let e : body .outcome .answer ≡ a = sym (answers-as f) ∙ q in inr (rw (sym (ap (listed bs) e) ∙ i, eq-eqb _ _ e));
+          runs = λ g. (by-check f, eqb-true _ _ (both (among bs a) _ g .1));
+          only = λ q. let e : body .outcome .answer ≡ a = sym (answers-as f) ∙ q in inr (rw (sym (ap (among bs) e) ∙ i, eq-eqb _ _ e));
         }
         go (some b) f = record {
           refuses = λ w. by-check (f ∙ ap some (eqb-true b a w));
-          runs = λ g. absurd (false≢true (both (listed bs a) _ g .1));
+          runs = λ g. absurd (false≢true (both (among bs a) _ g .1));
           only = λ q. inl (eq-eqb b a (sym (answers-as f) ∙ q));
         }
 
     -- no number but those of its rows is its answer
-    pub others : (a : ℕ) → has checks a ≡ false → listed bs a ≡ false → d .outcome .answer ≡ a → ⊥
-    others a m j q = false≢true (sym j ∙ ap (listed bs) (sym q ∙ answers-as (from-body a m q)) ∙ i)
+    pub others : (a : ℕ) → has checks a ≡ false → among bs a ≡ false → d .outcome .answer ≡ a → ⊥
+    others a m j q = false≢true (sym j ∙ ap (among bs) (sym q ∙ answers-as (from-body a m q)) ∙ i)

@@ -21,8 +21,8 @@ use Rattle.engine_write.specs.Store.{store}
 use Rattle.engine_laws.proofs.Calls.{by-pick}
 
 -- what a body leaves satisfies STATE
-abbrev pub Fits : Done → Type 0
-Fits d = StateFits (d .outcome .log)
+abbrev pub LeavesState : Done → Type 0
+LeavesState d = StateFits (d .outcome .log)
 
 -- A lies past the header of the page of byte A - 1
 past-last : (a : ℕ) {p w : ℕ} → 0 < p → w ≤ p → 0 < a → (a % p ≡ 0) ⊎ (w ≤ a % p) → (a - 1) / p * p + w ≤ a
@@ -74,16 +74,16 @@ moved-fits s state o read kept r m k =
       kept-some = k;
     }
 
-pub oldest-stays : {l : Log} → StateFits l → OldestFits l (l .oldest)
-oldest-stays s = record { headed = s .headed; ordered = s .ordered; first = s .first }
+pub oldest-kept : {l : Log} → StateFits l → OldestFits l (l .oldest)
+oldest-kept s = record { headed = s .headed; ordered = s .ordered; first = s .first }
 
 pub state-set : {l : Log} → StateFits l → (state : State) → keptFits state (l .kept) ≡ true → StateFits (inState l state)
-state-set {l} s state k = moved-fits s state (oldest-stays s) (l .read) (l .kept) (s .read-limited) (s .kept-most) k
+state-set {l} s state k = moved-fits s state (oldest-kept s) (l .read) (l .kept) (s .read-limited) (s .kept-most) k
 
 -- a flush leaves O at a page's first entry, up to A
 oldest-moves : (l : Log) → Sized (l .setup) → StateFits l → OldestFits l (movedOldest (l .setup .p) (overwrittenPage l) (l .oldest))
 unfolding movedOldest
-oldest-moves l z s = by-pick (OldestFits l) (eqb (l .oldest / l .setup .p) (overwrittenPage l)) there (λ e. oldest-stays s)
+oldest-moves l z s = by-pick (OldestFits l) (eqb (l .oldest / l .setup .p) (overwrittenPage l)) there (λ e. oldest-kept s)
   where
     there : eqb (l .oldest / l .setup .p) (overwrittenPage l) ≡ true → OldestFits l (l .oldest + l .setup .p)
     there e =

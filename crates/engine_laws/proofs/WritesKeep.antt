@@ -21,7 +21,7 @@ use Rattle.engine_write.specs.Append.{fitsPage, holding, appendChecks, appendRu
 use Rattle.engine_write.proofs.AppendLaws.{accepted, fits-page}
 use Rattle.engine_write.specs.WriteComplete.{opensNext, opened, openedIn, appendWritten, syncWritten, writeRuns}
 use Rattle.engine_laws.proofs.Calls.{by-pick}
-use Rattle.engine_laws.proofs.StateKit.{Fits, moved-fits, oldest-stays, flush-fits, state-set, store-fits}
+use Rattle.engine_laws.proofs.StateKit.{LeavesState, moved-fits, oldest-kept, flush-fits, state-set, store-fits}
 
 -- the state after an append that passed its checks satisfies STATE
 pub append-fits : (l : Log) → Sized (l .setup) → StateFits l → (x : Lent) (bytes : List ℕ) (n : ℕ) (word : Word)
@@ -30,7 +30,7 @@ unfolding appendRuns keptFits
 append-fits l z s x bytes n word p =
     let a = accepted l (length bytes) n p in
     let e = length-take-le n bytes (a .inside) in
-    by-pick Fits (fitsPage l (length (take n bytes)))
+    by-pick LeavesState (fitsPage l (length (take n bytes)))
     (λ h. let i = fits-page l _ h in store-fits l z s x (take n bytes) (i .0) (omega (arith, facts z, parts (l .append) (facts z .page))) (omega arith))
     (λ h. flush-fits l z s (holding x (take n bytes)) Append (length (take n bytes)) word (omega arith)
     (lt-ltb 0 (length (take n bytes)) (omega (arith, a .some-bytes))))
@@ -60,15 +60,15 @@ pub write-fits : (l : Log) → Sized (l .setup) → StateFits l → (x : Lent) (
     → StateFits (writeRuns l x good .outcome .log)
 unfolding writeRuns appendWritten syncWritten keptFits
 write-fits l z s x good k =
-    by-pick Fits (is (l .state) Append) (λ a. by-pick Fits good (λ g. by-pick Fits (opensNext l) stored (λ o. not-stored)) (λ g. not-stored))
-    (λ a. by-pick Fits good (λ g. by-pick Fits (eqb (l .append % l .setup .p) 0 && opensNext l)
+    by-pick LeavesState (is (l .state) Append) (λ a. by-pick LeavesState good (λ g. by-pick LeavesState (opensNext l) stored (λ o. not-stored)) (λ g. not-stored))
+    (λ a. by-pick LeavesState good (λ g. by-pick LeavesState (eqb (l .append % l .setup .p) 0 && opensNext l)
     (λ e. state-set (opened-fits l z s (both (eqb (l .append % l .setup .p) 0) (opensNext l) e .1)) Idle refl) (λ e. state-set s Idle refl))
     (λ g. state-set s Idle refl))
   where
     not-stored : StateFits (moved l Idle (l .oldest) (l .read) (l .append) 0)
-    not-stored = moved-fits s Idle (oldest-stays s) (l .read) 0 (s .read-limited) (omega arith) refl
+    not-stored = moved-fits s Idle (oldest-kept s) (l .read) 0 (s .read-limited) (omega arith) refl
 
-    stored : opensNext l ≡ true → Fits (store (opened l) (openedIn l x) (take (l .kept) (x .hold)))
+    stored : opensNext l ≡ true → LeavesState (store (opened l) (openedIn l x) (take (l .kept) (x .hold)))
     stored h =
         let long = length-take-le (l .kept) (x .hold) k in
         let offset : opened l .append % l .setup .p ≡ l .setup .w = rest-of ((l .append + (l .setup .p - 1)) / l .setup .p) (omega (arith, facts z)) refl in

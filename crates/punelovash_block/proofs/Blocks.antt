@@ -10,10 +10,7 @@ use lib.Dec.{eqb, leb, ltb}
 use borrow.Author.Tests.{eqb-true, eq-eqb, ne-eqb, leb-true, leb-false}
 use lib.ListN.{length, getD}
 use Rattle.page.specs.Pick.{pick}
-use Rattle.engine_state.specs.Answer.{number}
 use Rattle.engine_state.specs.Log.{Log, logOf}
-use Rattle.engine_state.specs.declared.answer.Answer as code
-use Rattle.engine_state.specs.declared.answer.Answer.the-variants as a
 use Rattle.engine_state.specs.declared.state.Log as log
 use Rattle.punelovash_block.specs.declared.block.Loaded as loads
 use Rattle.punelovash_block.specs.declared.block.Loaded.the-variants as v
@@ -35,32 +32,18 @@ flag-four f h = go (leb 4 f) refl
     go true e = let k : 4 ≤ f = leb-true 4 f e in sym (eq-eqb (f / 4 % 2) 1 (omega (arith, h, k)))
     go false e = let k : f < 4 = leb-false 4 f e in sym (ne-eqb (f / 4 % 2) 1 (omega (arith, h, k)))
 
--- an answer's number is small
-pub number-small : (x : code.Answer) → number x ≤ 23
-number-small a.OK = omega arith
-number-small a.FAIL = omega arith
-number-small a.BUSY = omega arith
-number-small a.RESERVE = omega arith
-number-small a.INVAL = omega arith
-number-small a.SIZE = omega arith
-number-small a.CANCEL = omega arith
-number-small a.SHAPE = omega arith
-number-small a.STATE = omega arith
-number-small a.STRAY = omega arith
-number-small a.LIMIT = omega arith
-
 -- what a function that has loaded a block knows of it
 module _ (w : ℕ) (block : List ℕ) {r : loads.Loaded} (e : loadedOf w r ≡ loaded w block) where
   pub holds-none : r ≡ v.Bad → loaded w block ≡ none
   holds-none q = sym e ∙ ap (loadedOf w) q
 
-  pub holds : {l : log.Log} → r ≡ v.Log l → loaded w block ≡ some (logOf w l)
-  holds q = sym e ∙ ap (loadedOf w) q
+  pub holds-log : {l : log.Log} → r ≡ v.Log l → loaded w block ≡ some (logOf w l)
+  holds-log q = sym e ∙ ap (loadedOf w) q
 
 -- tests that a log was let through by
-pub passes : (t : Bool) (x : Option Log) {l : Log} → pick t x none ≡ some l → (t ≡ true) × (x ≡ some l)
-passes true x e = (refl, e)
-passes false x {l} e = absurd (Option·none-ne-some l e)
+pub test-passed : (t : Bool) (x : Option Log) {l : Log} → pick t x none ≡ some l → (t ≡ true) × (x ≡ some l)
+test-passed true x e = (refl, e)
+test-passed false x {l} e = absurd (Option·none-ne-some l e)
 
 pub refuses-not : (t : Bool) (x : Option Log) {l : Log} → pick t none x ≡ some l → (t ≡ false) × (x ≡ some l)
 refuses-not true x {l} e = absurd (Option·none-ne-some l e)
@@ -71,7 +54,7 @@ pub loaded-tests : (w : ℕ) (block : List ℕ) {l : Log} → loaded w block ≡
     × (logAt w block ≡ l)
 unfolding loaded
 loaded-tests w block {l} e =
-    let a = passes (eqb (length block) (blockSize w)) _ e in
+    let a = test-passed (eqb (length block) (blockSize w)) _ e in
     let b = refuses-not (ltb 7 (getD block flagsAt 0)) _ (a .1) in
     let c = refuses-not (ltb 5 (getD block stateAt 0)) _ (b .1) in
     (eqb-true _ _ (a .0), b .0, Option·some-injective (logAt w block) l (c .1))
@@ -79,11 +62,11 @@ loaded-tests w block {l} e =
 -- the same of what a function has loaded
 module _ (w : ℕ) (block : List ℕ) {r : loads.Loaded} {l : log.Log} (e : loadedOf w r ≡ loaded w block) (q : r ≡ v.Log l) where
   pub held-size : length block ≡ blockSize w
-  held-size = loaded-tests w block (holds w block e q) .0
+  held-size = loaded-tests w block (holds-log w block e q) .0
 
   pub held-lent : (x : Lent) {volume page : ℕ} → (volume ≡ l .geometry .«page_count» * l .geometry .«page_size») × (page ≡ l .geometry .«page_size»)
       → AsIfLent (setupAt w block) x → Lengths x volume page page
-  held-lent x z a = rw (z .0, z .1) (subst (λ (k : Log). AsIfLent (k .setup) x) (loaded-tests w block (holds w block e q) .2) a)
+  held-lent x z a = rw (z .0, z .1) (subst (λ (k : Log). AsIfLent (k .setup) x) (loaded-tests w block (holds-log w block e q) .2) a)
 
 pub held-words : (r : loads.Loaded) (l : log.Log) → r ≡ v.Log l → WordsIn r → Words (l .geometry)
 held-words r l q h = rw q at h
@@ -101,18 +84,18 @@ module _ (w : ℕ) (block : List ℕ) {r : loads.Loaded} (e : loadedOf w r ≡ l
   pub log-runs : (run : Log → Done) (x : Lent) {l : log.Log} (o : Outcome) {a : ℕ} {after page hold : List ℕ} → r ≡ v.Log l
       → ((page hold : List ℕ) → blockDone a after page hold ≡ ran w block (record { outcome = o; page = page; hold = hold }))
       → record { outcome = o; page = page; hold = hold } ≡ run (logOf w l) → blockDone a after page hold ≡ runLoaded w block x run (loaded w block)
-  log-runs run x o {page} {hold} q s d = rw (holds w block e q) (s page hold ∙ ap (ran w block) d)
+  log-runs run x o {page} {hold} q s d = rw (holds-log w block e q) (s page hold ∙ ap (ran w block) d)
 
   -- a getter's number, and the buffer of a read
   pub no-log-gives : (f : Log → ℕ) → r ≡ v.Bad → 0 ≡ orZero f (loaded w block)
   no-log-gives f q = rw (holds-none w block e q)
 
   pub log-gives : (f : Log → ℕ) {l : log.Log} {n : ℕ} → r ≡ v.Log l → n ≡ f (logOf w l) → n ≡ orZero f (loaded w block)
-  log-gives f q n = rw (holds w block e q) n
+  log-gives f q n = rw (holds-log w block e q) n
 
   pub no-log-reads : (x : Lent) (bytes : List ℕ) (n : ℕ) → r ≡ v.Bad → bytes ≡ readLoaded x bytes n (loaded w block)
   no-log-reads x bytes n q = rw (holds-none w block e q)
 
   pub log-reads : (x : Lent) (bytes : List ℕ) (n : ℕ) {l : log.Log} {after : List ℕ} → r ≡ v.Log l → after ≡ readBuffer (logOf w l) x bytes n
       → after ≡ readLoaded x bytes n (loaded w block)
-  log-reads x bytes n q h = rw (holds w block e q) h
+  log-reads x bytes n q h = rw (holds-log w block e q) h

@@ -63,9 +63,12 @@ lengthAt w = 24 + 3 * w
 abbrev pub flashPageAt : ℕ → ℕ
 flashPageAt w = 28 + 3 * w
 
--- 44 or 56 bytes
+-- 44 or 56 bytes: three IDs, and 32 bytes beside them
+abbrev pub blockRest : ℕ
+blockRest = 32
+
 abbrev pub blockSize : ℕ → ℕ
-blockSize w = 32 + 3 * w
+blockSize w = blockRest + 3 * w
 
 -- the state of a number
 abbrev pub stateFrom : ℕ → State

@@ -8,7 +8,7 @@ ghost use Rattle.page.specs.Bytes.{overwrite};
 ghost use Rattle.engine_state.specs.Answer.{reportOf, requestOf};
 ghost use Rattle.engine_state.specs.Log.{setupOf, logOf};
 ghost use Rattle.engine_call.specs.Outcome.{Lent, Lengths, doneOf};
-ghost use Rattle.punelovash_block.specs.Block.{Words, WordsIn, blockSize, flagsAt, setupAt, logAt, loadedOf, loaded, reportNumbers, withLog};
+ghost use Rattle.punelovash_block.specs.Block.{Words, WordsIn, blockRest, blockSize, flagsAt, setupAt, logAt, loadedOf, loaded, reportNumbers, withLog};
 ghost use Rattle.punelovash_block.specs.Block.{withReport, withRequest, sized};
 ghost use Rattle.punelovash_block.specs.Call.{blockDone, noLog, ran, AsIfLent};
 use crate::numbers;
@@ -63,11 +63,11 @@ const LENGTH_AT: usize = 24;
 
 const PAGE_AT: usize = 28;
 
-const BLOCK_END: usize = 32;
+const BLOCK_REST: usize = 32;
 
 // A place after the three IDs.
 fn past_ids(width: usize, at: usize) -> usize
-    requires { ⌜ Width width × (at ≤ 32) ⌝ }
+    requires { ⌜ Width width × (at ≤ blockRest) ⌝ }
     ensures { λ r. ⌜ r ≡ at + 3 * width ⌝ }
 {
     at + 3 * width
@@ -78,7 +78,7 @@ pub(crate) fn block_size(width: usize) -> usize
     requires { ⌜ Width width ⌝ }
     ensures { λ r. ⌜ r ≡ blockSize width ⌝ }
 {
-    past_ids(width, BLOCK_END)
+    past_ids(width, BLOCK_REST)
 }
 
 // The log in a block, or that it holds none.
@@ -250,7 +250,7 @@ pub(crate) fn save_sizes(
     append_client: bool,
     block: &mut [u8],
 )
-    requires { ⌜ 13 ≤ length (now block) ⌝ }
+    requires { ⌜ flagsAt < length (now block) ⌝ }
     ensures { λ r. ⌜ ((w : ℕ) → now (block .exit) ≡ sized (setupOf w geometry circular) «read_client» «append_client» (now (block .entry))) ⌝ }
 {
     word::write_word(4, block, PAGE_SIZE_AT, geometry.page_size);

@@ -150,7 +150,7 @@ pub fn outcome(line: &mut [u8], at: usize, given: Outcome) -> usize {
     let answer = given.answer;
     let said = given.report;
     let asked = given.request;
-    let first = number(line, at, answer::answer_number(answer));
+    let first = number(line, at, answer::answer_number(answer) as usize);
     let second = report(line, first, said);
     let third = request(line, second, asked);
     log_fields(line, third, given.log)

@@ -6,14 +6,14 @@ use lib.ListN.{length}
 use lib.Dec.{eqb}
 use Rattle.page.specs.Answered.{FAIL}
 use Rattle.engine_call.specs.Outcome.{lend}
-use Rattle.bench_run.proofs.OutLaw.{Sofar, sofar-starts, sofar-zeros, sofar-goes, sofar-full, sofar-stops}
+use Rattle.bench_run.proofs.OutLaw.{ReadSofar, sofar-starts, sofar-zeros, sofar-goes, sofar-full, sofar-stops}
 use borrow.Author.Needs.{needs}
 use Rattle.bench_run.proofs.entries.read_out.Statement.{statement}
 use Rattle.bench_run.proofs.entries.read_out.Tie as tie
 
 abbrev Inv-loop : tie.InvT-loop
 Inv-loop width volume page hold out₀ current₀ count₀ used₀ out current count used =
-    Sofar width (lend volume page hold) current₀ (length out₀) out current count used
+    ReadSofar width (lend volume page hold) current₀ (length out₀) out current count used
 
 abbrev μ-loop : tie.MeasureT-loop
 μ-loop width volume page hold out₀ current₀ count₀ used₀ out current count used = length out₀ - used

@@ -12,7 +12,7 @@ use Rattle.engine_restart.specs.Restart as recovery
 use Rattle.bench_flash.specs.Event as events
 use Rattle.bench_flash.specs.Event.{Restart, restartOf}
 use Rattle.bench.specs.World.{World, Step, step}
-use Rattle.bench_step.specs.Step.{givenSetup, worldOf, stepOf, restarts}
+use Rattle.bench_step.specs.Step.{givenSetup, worldOf, stepOf, restartsAfter}
 use Rattle.bench_step.proofs.Steps.{cut-first, starts-anew, unlike, alike}
 use borrow.Author.Needs.{needs}
 use Rattle.bench_step.proofs.power.restart_with.Statement.{statement}
@@ -35,7 +35,7 @@ abbrev over : tie.After-cut → Step
 over c = let s = start c in stepOf (setup s) (c .cut .result) (s .args .page .now) (s .args .hold .now) (c .cut .last .1 .1 .1 .0)
 
 -- a restart after it
-restarted : (c : tie.After-cut) {s : Step} → s ≡ restarts (setup (start c)) (over c) (restart (start c))
+restarted : (c : tie.After-cut) {s : Step} → s ≡ restartsAfter (setup (start c)) (over c) (restart (start c))
     → s ≡ step (setup (start c)) (world (start c)) (events.restart (restart (start c)))
 restarted c = let s = start c in cut-first (setup s) (world s) (restart s) (over c) (c .cut .ensures (s .args .hold .now))
 
