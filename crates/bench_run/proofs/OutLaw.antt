@@ -106,7 +106,7 @@ module _ {w : ℕ} {x : Lent} where
         }
 
   -- no entry more
-  module _ {l : code.Log} {begun out : List ℕ} {current : code.Log} {count at : ℕ} (s : ReadSofar w x l (length begun) out current count at) {part' : List ℕ} where
+  module _ {l current : code.Log} {begun out part' : List ℕ} {count at : ℕ} (s : ReadSofar w x l (length begun) out current count at) where
     sofar-ends : {whole : Bool} → ReadsOut x (logOf w current) (length (rest s)) [] whole → part' ≡ rest s
         → ReadOut x (logOf w l) count at whole begun (putMid at (length out - at) out part')
     sofar-ends {whole} r e =

@@ -21,7 +21,7 @@ use bench_step::step;
 use bench_step::world;
 use bench_step::world::Setup;
 use bench_step::world::World;
-use engine_state::check;
+use engine_state::fits;
 use engine_state::state::Geometry;
 use page::id::EntryID;
 
@@ -123,7 +123,7 @@ pub fn run(
         Runs (setupOf width geometry circular) (listed (length (now (out .entry))) (now (list .entry))) (leftOf left) «append_client»
         x x' (now (out .entry)) (now (out .exit)) (ranOf r)) ⌝ }
 {
-    if !check::shape_fits(width, geometry, volume.len(), page.len(), hold.len()) {
+    if !fits::shape_fits(width, geometry, volume.len(), page.len(), hold.len()) {
         return Ran::Shape;
     }
     let setup = Setup {

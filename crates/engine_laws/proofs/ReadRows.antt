@@ -59,7 +59,8 @@ length-looked w p a volume page id =
     or-fails (ltb p (id % p + w)) (or-fails (eqb n 0) (or-fails (ltb (p - 2 * w) n) (or-fails (ltb p (id % p + w + n)) (given n))))
 
 module _ (l : Log) (x : Lent) (n : ℕ) where
-  size-reads : Looks l → (id : ℕ) → nextPlace l x ≡ gives id → {a : Answered} → lengthThere l x id ≡ a → Looked a → Reads l x n (readDone l x (foundLength n id a))
+  size-reads : Looks l → (id : ℕ) → nextPlace l x ≡ gives id → {a : Answered} → lengthThere l x id ≡ a → Looked a
+      → Reads l x n (readDone l x (foundLength n id a))
   size-reads k id e i fails = bad-header k id e i
   size-reads k id e i (given size) =
       by-pick (λ (f : Found). Reads l x n (readDone l x f)) (ltb n size)

@@ -60,7 +60,8 @@ pub write-fits : (l : Log) → Sized (l .setup) → StateFits l → (x : Lent) (
     → StateFits (writeRuns l x good .outcome .log)
 unfolding writeRuns appendWritten syncWritten keptFits
 write-fits l z s x good k =
-    by-pick LeavesState (is (l .state) Append) (λ a. by-pick LeavesState good (λ g. by-pick LeavesState (opensNext l) stored (λ o. not-stored)) (λ g. not-stored))
+    by-pick LeavesState (is (l .state) Append)
+    (λ a. by-pick LeavesState good (λ g. by-pick LeavesState (opensNext l) stored (λ o. not-stored)) (λ g. not-stored))
     (λ a. by-pick LeavesState good (λ g. by-pick LeavesState (eqb (l .append % l .setup .p) 0 && opensNext l)
     (λ e. state-set (opened-fits l z s (both (eqb (l .append % l .setup .p) 0) (opensNext l) e .1)) Idle refl) (λ e. state-set s Idle refl))
     (λ g. state-set s Idle refl))

@@ -78,6 +78,6 @@ restartBlock w block s read-client append-client x =
 
 -- the survey: the answer's number, and the count where it is OK; else the count stays
 pub data SurveysVolume (s : Setup) (volume ids ids' : List ℕ) (count count' a : ℕ) : Type 0 where
-  counts : a ≡ OK → Surveys s volume ids (gives count') ids' → SurveysVolume s volume ids ids' count count' a
+  counted : a ≡ OK → Surveys s volume ids (gives count') ids' → SurveysVolume s volume ids ids' count count' a
   too-many : a ≡ SIZE → count' ≡ count → Surveys s volume ids (refuses SIZE) ids' → SurveysVolume s volume ids ids' count count' a
   misfits : a ≡ SHAPE → count' ≡ count → Surveys s volume ids (refuses SHAPE) ids' → SurveysVolume s volume ids ids' count count' a

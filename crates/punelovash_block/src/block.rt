@@ -1,7 +1,7 @@
 // The block that a caller lends: 32 + 3 × width bytes with the log and what the last call gave.
 ghost use mathlib.Core.Path.{_≡_};
 ghost use mathlib.Core.List.{List, [], _∷_};
-ghost use Prim.Native.Nat.{ℕ, _+_, _*_, _≤_};
+ghost use Prim.Native.Nat.{ℕ, _+_, _*_, _≤_, _<_};
 ghost use lib.ListN.{length, getD};
 ghost use Rattle.page.specs.Sizes.{Width};
 ghost use Rattle.page.specs.Bytes.{overwrite};
@@ -23,7 +23,7 @@ use engine_call::outcome::Outcome;
 use engine_state::answer;
 use engine_state::answer::Report;
 use engine_state::answer::Request;
-use engine_state::check;
+use engine_state::fits;
 use engine_state::state;
 use engine_state::state::Geometry;
 use engine_state::state::Log;
@@ -163,7 +163,7 @@ pub(crate) fn no_log(
         return STATE;
     }
     let geometry = sizes_at(block);
-    if check::shape_fits(width, geometry, volume_len, page_len, hold_len) {
+    if fits::shape_fits(width, geometry, volume_len, page_len, hold_len) {
         return STATE;
     }
     SHAPE

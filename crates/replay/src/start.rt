@@ -5,7 +5,7 @@ use crate::world;
 use crate::world::World;
 use bench_step::world::Setup;
 use bench_step::world::Step;
-use engine_state::check;
+use engine_state::fits;
 use engine_state::state::Geometry;
 use engine_state::state::Log;
 use tool_script::parse::Fault;
@@ -20,7 +20,7 @@ fn buffer_size(width: usize, page_size: usize) -> usize {
         page_count: 1,
         first_page: 0,
     };
-    if check::sizes_fit(width, one_page) {
+    if fits::sizes_fit(width, one_page) {
         return page_size;
     }
     0

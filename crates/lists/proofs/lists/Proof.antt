@@ -31,10 +31,11 @@ part-list-end c = c .before .before .list-size .ensures
 -- the list ends in the bytes
 goes : tie.Need-loop-again Inv-loop μ-loop
 goes c =
+    let at-list-size = c .before .before .before .before in
     let at-loop = c .before .before .before .before .before .before .before in
     let start = at-loop .before .before in
     let bytes = start .args .bytes .now in
-    omega (arith, c .before .before .before .before .list-size .ensures, long bytes (at-loop .loop .at), at-loop .loop .inv)
+    omega (arith, at-list-size .list-size .ensures, long bytes (at-loop .loop .at), at-loop .loop .inv)
 
 add-at : tie.Need-add-at Inv-loop μ-loop
 add-at c =

@@ -25,8 +25,11 @@ part-fill-end : tie.Need-part-fill-end
 part-fill-end c = fits-volume c
 
 returns-2 : tie.Need-returns-2
-returns-2 c = blanks _ _ _ _ (sym (c .before .before .before .before .before .slot-fits .ensures)
-    ∙ not-false _ (c .before .before .before .before .if1 .left)) (c .before .before .fill .ensures)
+returns-2 c =
+    let at-if1 = c .before .before .before .before in
+    let at-slot-fits = c .before .before .before .before .before in
+    blanks _ _ _ _ (sym (at-slot-fits .slot-fits .ensures)
+    ∙ not-false _ (at-if1 .if1 .left)) (c .before .before .fill .ensures)
 
 pub blank-slot-spec : {M : Type 1} → statement M
 blank-slot-spec =

@@ -29,10 +29,12 @@ copy-in-requires c κs = omega (arith, fits-volume c)
 returns-3 : tie.Need-returns-3
 unfolding putSlot
 returns-3 c =
+    let at-if2 = c .before .before .before .before in
+    let at-if1 = c .before .before .before .before .before in
     let at-slot-fits = c .before .before .before .before .before .before in
     c .before .before .copy-in .ensures ∙ sym (in-slot _ _ _ _
-    (sym (at-slot-fits .slot-fits .ensures) ∙ not-false _ (c .before .before .before .before .before .if1 .left))
-    (c .before .before .before .before .if2 .left))
+    (sym (at-slot-fits .slot-fits .ensures) ∙ not-false _ (at-if1 .if1 .left))
+    (at-if2 .if2 .left))
 
 pub put-slot-spec : {M : Type 1} → statement M
 put-slot-spec =

@@ -13,15 +13,21 @@ number c = sym (c .read-word .ensures)
 
 returns : tie.Need-returns
 unfolding eventFrom
-returns c bytes room = rw (c .match .keys1, number (c .before .before .before .before), c .before .before .before .driver-from .ensures)
+returns c bytes room =
+    let at-read-word = c .before .before .before .before in
+    rw (c .match .keys1, number at-read-word, c .before .before .before .driver-from .ensures)
 
 returns-2 : tie.Need-returns-2
 unfolding eventFrom
-returns-2 c bytes room = rw (c .match .keys2, number (c .before .before .before .before))
+returns-2 c bytes room =
+    let at-read-word = c .before .before .before .before in
+    rw (c .match .keys2, number at-read-word)
 
 returns-3 : tie.Need-returns-3
 unfolding eventFrom
-returns-3 c bytes room = rw (c .match .keys3, number (c .before .before .before .before))
+returns-3 c bytes room =
+    let at-read-word = c .before .before .before .before in
+    rw (c .match .keys3, number at-read-word)
 
 returns-4 : tie.Need-returns-4
 unfolding eventFrom

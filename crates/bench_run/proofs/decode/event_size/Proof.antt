@@ -31,13 +31,15 @@ add-size c = search needs
 
 returns-2 : tie.Need-returns-2
 returns-2 c =
-    let list = c .before .before .before .before .args .list .now in
+    let start = c .before .before .before .before in
+    let list = start .args .list .now in
     let short : length list < 14 + c .before .read-four .result = c .if2 .taken in
     rw (incomplete list (omega (arith, size (c .before))))
 
 returns-3 : tie.Need-returns-3
 returns-3 c =
-    let list = c .before .before .before .before .args .list .now in
+    let start = c .before .before .before .before in
+    let list = start .args .list .now in
     let fits : 14 + c .before .read-four .result ≤ length list = c .if2 .left in
     rw (is-complete list (omega (arith, size (c .before)))) (size (c .before))
 

@@ -28,20 +28,22 @@ returns-2 c = no-room (omega (arith, c .if2 .taken)) refl
 
 returns-3 : tie.Need-returns-3
 returns-3 c =
+    let at-read = c .before .before .before .before in
     let k = c .before .before .before .before .before .before in
     let s = k .before .before .before .before .before .before in
-    next-stops (lent s) (log s) (s .args .out .now) (room k) (c .before .before .before .before .read .ensures)
+    next-stops (lent s) (log s) (s .args .out .now) (room k) (at-read .read .ensures)
     (λ q. c .if3 .taken (c .before .answer-number .ensures ∙ q))
 
 returns-4 : tie.Need-returns-4
 returns-4 c =
+    let at-write-word = c .before .before .before .before in
     let read = c .before .before .before .before .before .before .before .before .before .before .before in
     let k = read .before .before in
     let s = k .before .before .before .before .before .before in
     let passed = c .before .before .before .before .before .before .before in
     let ok = sym (passed .before .answer-number .ensures) ∙ passed .if3 .left in
     let next = ap (λ (d : Done). d .outcome .log) (c .before .handle-deferred-call .ensures (lent s) (refl, refl, refl)) in
-    next-reads (lent s) (log s) (s .args .out .now) (room k) (read .read .ensures) ok (s .pre .1) next (c .before .before .before .before .write-word .ensures)
+    next-reads (lent s) (log s) (s .args .out .now) (room k) (read .read .ensures) ok (s .pre .1) next (at-write-word .write-word .ensures)
 
 pub read-next-spec : {M : Type 1} → statement M
 read-next-spec =

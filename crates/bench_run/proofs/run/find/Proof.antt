@@ -16,12 +16,13 @@ read-out-requires c κs =
 
 returns : tie.Need-returns
 returns c book begun long =
+    let at-read-out = c .before .before .before .before in
     let filled = c .before .before .before .before .before .before .before .before .before .before in
     let r = filled .before .before .before .before .before .before .before .before .restart-again in
     let s = filled .before .before .before .before .before .before .before .before .before .before .before .before .before .before .before in
     let after = r .last .1 .1 .1 .1 .1 in
     let y : World = worldOf (givenSetup (s .args .setup)) (r .result .world) (after .1 .0) (s .args .hold .now) (after .0) in
-    ran-again y (ap (λ (d : Step). d .world) (r .ensures)) (filled .fill .kept .0 ∙ sym long) (c .before .before .before .before .read-out .ensures)
+    ran-again y (ap (λ (d : Step). d .world) (r .ensures)) (filled .fill .kept .0 ∙ sym long) (at-read-out .read-out .ensures)
 
 pub find-spec : {M : Type 1} → statement M
 find-spec =

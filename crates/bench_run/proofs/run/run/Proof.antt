@@ -43,7 +43,9 @@ returns : tie.Need-returns
 returns c = list-refused (sym (shaped-is (c .before)) ∙ not-true _ (c .if1 .taken)) refl refl
 
 run-list-requires : tie.Need-run-list-requires
-run-list-requires c κs = fits (c .before .before .before .before)
+run-list-requires c κs =
+    let at-else1 = c .before .before .before .before in
+    fits at-else1
 
 find-requires : tie.Need-find-requires
 find-requires c κs =

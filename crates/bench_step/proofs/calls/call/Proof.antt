@@ -10,9 +10,10 @@ lent s = lend (s .args .volume .now) (s .args .page .now) (s .args .hold .now)
 
 returns : tie.Need-returns
 returns c =
+    let at-append = c .before .before .before .before in
     let at-call = c .before .before .before .before .before .before .before .before in
     let is = at-call .call .given .1 in
-    (rw is (c .before .before .before .before .append .ensures), rw is)
+    (rw is (at-append .append .ensures), rw is)
 
 returns-2 : tie.Need-returns-2
 returns-2 c =
@@ -28,18 +29,21 @@ returns-3 c =
 
 returns-4 : tie.Need-returns-4
 returns-4 c =
+    let start = c .before .before .before .before .before .before .before .before .before in
     let is = c .before .before .call4 .given .1 in
-    (rw is (c .seek .ensures (lent (c .before .before .before .before .before .before .before .before .before)) (refl, refl, refl)), rw is)
+    (rw is (c .seek .ensures (lent start) (refl, refl, refl)), rw is)
 
 returns-5 : tie.Need-returns-5
 returns-5 c =
+    let start = c .before .before .before .before .before .before .before .before in
     let is = c .before .enum-told .given .1 in
-    (rw is (c .handle-deferred-call .ensures (lent (c .before .before .before .before .before .before .before .before)) (refl, refl, refl)), rw is)
+    (rw is (c .handle-deferred-call .ensures (lent start) (refl, refl, refl)), rw is)
 
 returns-6 : tie.Need-returns-6
 returns-6 c =
+    let start = c .before .before .before .before .before .before .before .before .before in
     let is = c .before .before .call5 .given .1 in
-    (rw is (c .erase .ensures (lent (c .before .before .before .before .before .before .before .before .before)) (refl, refl, refl)), rw is)
+    (rw is (c .erase .ensures (lent start) (refl, refl, refl)), rw is)
 
 pub call-spec : {M : Type 1} → statement M
 call-spec =

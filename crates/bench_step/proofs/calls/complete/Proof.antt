@@ -4,10 +4,14 @@ use Rattle.bench_step.proofs.calls.complete.Statement.{statement}
 use Rattle.bench_step.proofs.calls.complete.Tie as tie
 
 returns : tie.Need-returns
-returns c = rw (c .before .before .before .before .before .completion .given .1) (c .before .before .write-complete .ensures)
+returns c =
+    let at-completion = c .before .before .before .before .before in
+    rw (at-completion .completion .given .1) (c .before .before .write-complete .ensures)
 
 returns-2 : tie.Need-returns-2
-returns-2 c = rw (c .before .before .before .before .before .completion2 .given .1) (c .before .before .erase-complete .ensures)
+returns-2 c =
+    let at-completion2 = c .before .before .before .before .before in
+    rw (at-completion2 .completion2 .given .1) (c .before .before .erase-complete .ensures)
 
 pub complete-spec : {M : Type 1} → statement M
 complete-spec =

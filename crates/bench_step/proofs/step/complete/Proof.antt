@@ -17,9 +17,10 @@ same-length c = search needs
 
 returns : tie.Need-returns
 returns c =
+    let at-complete = c .before .before .before .before in
     let start = c .before .before .before .before .before .before .before .before .before .before .before .before in
     let a = start .args in
-    rw (← c .before .before .before .before .complete .ensures, ← c .before .completion-word .ensures)
+    rw (← at-complete .complete .ensures, ← c .before .completion-word .ensures)
     (c .delivered .ensures (a .page .now) (a .hold .now) (a .volume .now) _ _)
 
 pub complete-spec : {M : Type 1} → statement M

@@ -42,7 +42,9 @@ other c = sym (c .before .ends .ensures) ∙ c .if2 .left
 
 -- whether STRAY refuses it
 stray : (c : tie.After-is-stray) → let s = start (c .before .before .before .before) in c .is-stray .result ≡ unlessDue (world s .log) (completion s) .test
-stray c = c .is-stray .ensures (setup (start (c .before .before .before .before)) .w)
+stray c =
+    let at-else1 = c .before .before .before .before in
+    c .is-stray .ensures (setup (start at-else1) .w)
 
 returns : tie.Need-returns
 returns c =
@@ -73,10 +75,11 @@ returns-3 c =
 
 returns-4 : tie.Need-returns-4
 returns-4 c =
+    let at-if3 = c .before .before .before .before .before in
     let k = c .before .before .before .before .before .before in
     let on = k .before .before .before .before in
     let s = start on in
-    let yes = sym (stray k) ∙ not-false _ (c .before .before .before .before .before .if3 .left) in
+    let yes = sym (stray k) ∙ not-false _ (at-if3 .if3 .left) in
     let still = on .before .before .undelivered .ensures (setup s) (s .args .page .now) (s .args .hold .now) (s .args .volume .now) in
     powered on (rw (other (k .before .before), yes) (c .before .before .complete2 .ensures ∙ ap (λ (o : Step). comes (setup s) o (completion s)) still))
 

@@ -13,9 +13,10 @@ returns c =
 
 returns-2 : tie.Need-returns-2
 returns-2 c =
+    let at-completed = c .before .before .before .before in
     let at-event2 = c .before .before .before .before .before .before .before .before .before in
     let is = at-event2 .event2 .given .1 in
-    (rw is (c .before .before .before .before .completed .ensures), rw is)
+    (rw is (at-completed .completed .ensures), rw is)
 
 returns-3 : tie.Need-returns-3
 returns-3 c =

@@ -9,14 +9,16 @@ use Rattle.cases_page.proofs.held.next.Tie as tie
 
 get-next-entry-requires : tie.Need-get-next-entry-requires
 get-next-entry-requires c κs =
+    let at-if4 = c .before .before .before .before in
+    let at-if3 = c .before .before .before .before .before in
     let at-if2 = c .before .before .before .before .before .before in
     let at-if1 = at-if2 .before in
     let at-board = at-if1 .before in
     let v = at-board .board .ensures in (
       v,
       lent-here v _ _ (at-if1 .if1 .left) (at-if2 .if2 .left),
-      pos-of-ne-zero (c .before .before .before .before .before .if3 .left),
-      omega (arith, wide v, c .before .before .before .before .if4 .left),
+      pos-of-ne-zero (at-if3 .if3 .left),
+      omega (arith, wide v, at-if4 .if4 .left),
     )
 
 get-entry-requires : tie.Need-get-entry-requires

@@ -16,11 +16,13 @@ below {w} v k {c} e h =
 
 overwritten-page-requires : tie.Need-overwritten-page-requires
 overwritten-page-requires c κs =
+    let at-ceiling = c .before .before .before .before in
+    let at-board = c .before .before .before .before .before in
     let start = c .before .before .before .before .before .before in
-    let v = c .before .before .before .before .before .board .ensures in (
+    let v = at-board .board .ensures in (
       v,
       omega arith,
-      below v (start .args .k) (c .before .before .before .before .ceiling .ensures) (c .before .before .before .if1 .left),
+      below v (start .args .k) (at-ceiling .ceiling .ensures) (c .before .before .before .if1 .left),
       omega (arith, wide v),
     )
 

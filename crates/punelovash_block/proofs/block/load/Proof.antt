@@ -23,13 +23,16 @@ returns-2 c = (rw (long (c .before .before), lt-ltb 7 _ (c .if2 .taken)), tt)
 
 returns-3 : tie.Need-returns-3
 unfolding loaded
-returns-3 c = (rw (long (c .before .before .before .before), le-ltb 7 _ (c .before .before .if2 .left), lt-ltb 5 _ (c .if3 .taken)), tt)
+returns-3 c =
+    let at-else1 = c .before .before .before .before in
+    (rw (long at-else1, le-ltb 7 _ (c .before .before .if2 .left), lt-ltb 5 _ (c .if3 .taken)), tt)
 
 returns-4 : tie.Need-returns-4
 unfolding loaded
 returns-4 c =
+    let at-else1 = c .before .before .before .before .before in
     let log = c .log-at .ensures in (
-      rw (long (c .before .before .before .before .before), le-ltb 7 _ (c .before .before .before .if2 .left), le-ltb 5 _ (c .before .if3 .left), log .0),
+      rw (long at-else1, le-ltb 7 _ (c .before .before .before .if2 .left), le-ltb 5 _ (c .before .if3 .left), log .0),
       log .1,
     )
 

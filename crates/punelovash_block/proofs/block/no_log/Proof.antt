@@ -21,7 +21,8 @@ fits s = shapeFits (setupAt (s .args .width) (s .args .block .now)) (s .args .vo
 
 shaped : (c : tie.After-shape-fits) {b : Bool} → c .shape-fits .result ≡ b → fits (c .before .before .before .before .before) ≡ b
 shaped c t =
-    let a = c .before .before .before .before .before .args in
+    let start = c .before .before .before .before .before in
+    let a = start .args in
     sym (rw (c .before .sizes-at .ensures .0 (a .width)) at (c .shape-fits .ensures (setupAt (a .width) (a .block .now) .circular))) ∙ t
 
 returns : tie.Need-returns

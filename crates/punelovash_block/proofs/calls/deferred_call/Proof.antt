@@ -15,7 +15,8 @@ returns c x e = let no = c .no-log-alone .ensures x e in search no-log-alone
 
 returns-2 : tie.Need-returns-2
 returns-2 c x e =
-    let run = c .before .before .before .before .handle-deferred-call .ensures x (search held-lent) in
+    let at-handle-deferred-call = c .before .before .before .before in
+    let run = at-handle-deferred-call .handle-deferred-call .ensures x (search held-lent) in
     search log-runs
 
 pub deferred-call-spec : {M : Type 1} → statement M

@@ -15,8 +15,9 @@ returns c x e = let no = c .no-log-alone .ensures x e in search no-log-alone
 
 returns-2 : tie.Need-returns-2
 returns-2 c x e =
+    let at-erase = c .before .before .before .before in
     let at-word-from = c .before .before .before .before .before .before .before in
-    let run = c .before .before .before .before .erase .ensures x (search held-lent) in
+    let run = at-erase .erase .ensures x (search held-lent) in
     rw (← (at-word-from .word-from .ensures)) (search log-runs)
 
 pub erase-spec : {M : Type 1} → statement M

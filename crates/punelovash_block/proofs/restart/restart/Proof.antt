@@ -41,20 +41,24 @@ returns c = rw (ne-eqb _ _ (rw (c .before .block-size .ensures) at (c .if1 .take
 
 save-requires : tie.Need-save-requires
 save-requires c κs =
+    let at-save-sizes = c .before .before .before .before in
     let test = c .before .before .before .before .before .before .before .before .before .before .before .before .before in
-    (test .before .before .before .before .before .before .pre, c .before .before .before .before .save-sizes .kept .1 .1 .1 .1 .0 ∙ whole test)
+    (test .before .before .before .before .before .before .pre, at-save-sizes .save-sizes .kept .1 .1 .1 .1 .0 ∙ whole test)
 
 returns-2 : tie.Need-returns-2
-returns-2 c = rw (← (restarts (c .before .before .before .before)), c .enum-told .given .1)
+returns-2 c =
+    let at-restart = c .before .before .before .before in
+    rw (← (restarts at-restart), c .enum-told .given .1)
 
 returns-3 : tie.Need-returns-3
 returns-3 c =
+    let at-still = c .before .before .before .before in
     let at-save-sizes = c .before .before .before .before .before .before .before in
     let at-log = at-save-sizes .before .before .before in
     let called = c .before .before .before .before .before .before .before .before .before .before .before .before .before .before in
     let a = called .before .before .before .before .before .before .before .before .args in
     let page = called .restart .last .1 .1 .1 .1 .1 .1 .0 in
-    let done = c .before .before .before .before .still .ensures (a .width) (lend (a .volume .now) page (a .hold .now)) in
+    let done = at-still .still .ensures (a .width) (lend (a .volume .now) page (a .hold .now)) in
     let block = at-save-sizes .save-sizes .ensures (a .width) in
     rw (← (restarts called), at-log .log .given .1, ← block) (c .before .before .save .ensures page (a .hold .now) ∙ ap (ran (a .width) _) done)
 
