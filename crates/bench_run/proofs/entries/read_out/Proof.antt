@@ -59,7 +59,8 @@ loop-again : tie.Need-loop-again Inv-loop μ-loop
 loop-again c =
     let read = c .before .before .before .before .before in
     let k = read .before .before in
-    sofar-goes (k .loop .inv) (k .before .before .before .before .before .pre .0) (rw (c .before .next .given .1) at (read .read-next .ensures))
+    let start = k .before .before .before .before .before in
+    sofar-goes (k .loop .inv) (start .pre .0) (rw (c .before .next .given .1) at (read .read-next .ensures))
 
 add-count : tie.Need-add-count Inv-loop μ-loop
 add-count c = let s = loop-again c in omega (arith, s .few, s .fits, s .short)

@@ -51,14 +51,16 @@ find-requires : tie.Need-find-requires
 find-requires c κs =
     let list = c .before .before .before .before .before .before .before .before .before .before .before .before in
     let kept = list .run-list .kept .1 .1 in
-    rw (kept .0, kept .1 .0, kept .1 .1 .0) (fits (list .before .before .before .before .before))
+    let at-if1 = list .before .before .before .before .before in
+    rw (kept .0, kept .1 .0, kept .1 .1 .0) (fits at-if1)
 
 returns-2 : tie.Need-returns-2
 returns-2 c =
     let read = c .before .before .before .before .before .before in
     let find = read .find in
     let list = read .before .before .before .before .before .before .before .before .before .before .before .before .before in
-    let s = start (list .before .before .before .before .before .before) in
+    let at-if1 = list .before .before .before .before .before in
+    let s = start (at-if1 .before) in
     let kept = list .run-list .kept .1 .1 in
     let is = list .run-list .ensures in
     let last = find .last .1 .1 .1 .1 in
@@ -66,7 +68,7 @@ returns-2 c =
     let Ends : World → Type 0 = λ y. Ran (again (setup s) (leftOf (s .args .left)) (s .args .append-client) (record { world = y; book = ended s .book }))
     (foundLogOf (find .result)) after (s .args .out .now) (last .1 .1 .1 .0) in
     let ran = subst Ends is (find .ensures (ended s .book) (s .args .out .now) (sym (kept .1 .1 .1 .0))) in
-    list-runs (lent s) (fits (list .before .before .before .before .before)) ran (find .kept .1 .1 .1 .1 .0 ∙ kept .0)
+    list-runs (lent s) (fits at-if1) ran (find .kept .1 .1 .1 .1 .0 ∙ kept .0)
     (ap (λ (y : World). length (y .page)) (sym is) ∙ kept .1 .0) (ap (λ (y : World). length (y .hold)) (sym is) ∙ kept .1 .1 .0)
 
 pub run-spec : {M : Type 1} → statement M

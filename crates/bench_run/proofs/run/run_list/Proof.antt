@@ -60,7 +60,8 @@ part-bytes-end c = let f = size-found _ _ (c .before .before .event-size .ensure
 step-requires : tie.Need-step-requires Inv-loop μ-loop
 step-requires c κs =
     let k = c .before .before .before .before .before .before .before .before .before in
-    upto-fits (k .loop .inv) (k .before .before .before .before .before .before .before .pre)
+    let start = k .before .before .before .before .before .before .before in
+    upto-fits (k .loop .inv) (start .pre)
 
 loop-again : tie.Need-loop-again Inv-loop μ-loop
 loop-again c =
@@ -80,7 +81,8 @@ add-at : tie.Need-add-at Inv-loop μ-loop
 add-at c =
     let u = loop-again c in
     let tested = c .before .before .before .before .before .before .before .before .before .before .before .before .before .before .before .before in
-    omega (arith, u .within, tested .before .before .before .before .before .before .before .before .before .before .good .1 .0 .0)
+    let at-good = tested .before .before .before .before .before .before .before .before .before .before in
+    omega (arith, u .within, at-good .good .1 .0 .0)
 
 loop-less : tie.Need-loop-less Inv-loop μ-loop
 loop-less c =

@@ -12,13 +12,15 @@ returns c hold =
 returns-2 : tie.Need-returns-2
 returns-2 c hold =
     let k = c .before .before .before .before .before .before in
-    let g = givenSetup (k .before .before .before .before .before .args .setup) in
+    let start = k .before .before .before .before .before in
+    let g = givenSetup (start .args .setup) in
     rw (k .operation .given .1, c .before .before .before .end-write .ensures) (c .at-rest2 .ensures g _ hold _)
 
 returns-3 : tie.Need-returns-3
 returns-3 c hold =
     let k = c .before .before .before .before .before .before in
-    let g = givenSetup (k .before .before .before .before .before .args .setup) in
+    let start = k .before .before .before .before .before in
+    let g = givenSetup (start .args .setup) in
     rw (k .operation2 .given .1, c .before .before .before .end-erase .ensures) (c .at-rest3 .ensures g _ hold _)
 
 pub end-spec : {M : Type 1} → statement M

@@ -75,7 +75,8 @@ copy-page-requires c κs = simp length-take (omega arith)
 same-length-5 : tie.Need-same-length-5
 same-length-5 c =
     let copied = c .before .before .before .before .before .before .before .before .before .before .before .before .before in
-    copied .before .before .before .before .before .before .before .cut .kept .1 .1 .1 .0
+    let at-cut = copied .before .before .before .before .before .before .before in
+    at-cut .cut .kept .1 .1 .1 .0
 
 returns-3 : tie.Need-returns-3
 returns-3 c =

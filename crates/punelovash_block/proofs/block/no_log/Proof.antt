@@ -19,7 +19,8 @@ long c = eq-eqb _ _ (c .if1 .left ∙ c .before .block-size .ensures)
 abbrev fits : tie.Start → Bool
 fits s = shapeFits (setupAt (s .args .width) (s .args .block .now)) (s .args .volume-len) (s .args .page-len) (s .args .hold-len)
 
-shaped : (c : tie.After-shape-fits) {b : Bool} → c .shape-fits .result ≡ b → fits (c .before .before .before .before .before) ≡ b
+shaped : (c : tie.After-shape-fits) {b : Bool} → let start = c .before .before .before .before .before in
+    c .shape-fits .result ≡ b → fits start ≡ b
 shaped c t =
     let start = c .before .before .before .before .before in
     let a = start .args in

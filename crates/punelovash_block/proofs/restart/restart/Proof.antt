@@ -20,8 +20,8 @@ abbrev lent : tie.Start → Lent
 lent s = lend (s .args .volume .now) (s .args .page .now) (s .args .hold .now)
 
 -- past the test the block has its size
-whole : (c : tie.Else1) → length (c .before .before .before .before .before .before .args .block .now)
-    ≡ blockSize (c .before .before .before .before .before .before .args .width)
+whole : (c : tie.Else1) → let start = c .before .before .before .before .before .before in
+    length (start .args .block .now) ≡ blockSize (start .args .width)
 whole c = c .if1 .left ∙ c .before .block-size .ensures
 
 -- what the block takes of the restart's answer
@@ -43,7 +43,8 @@ save-requires : tie.Need-save-requires
 save-requires c κs =
     let at-save-sizes = c .before .before .before .before in
     let test = c .before .before .before .before .before .before .before .before .before .before .before .before .before in
-    (test .before .before .before .before .before .before .pre, at-save-sizes .save-sizes .kept .1 .1 .1 .1 .0 ∙ whole test)
+    let start = test .before .before .before .before .before .before in
+    (start .pre, at-save-sizes .save-sizes .kept .1 .1 .1 .1 .0 ∙ whole test)
 
 returns-2 : tie.Need-returns-2
 returns-2 c =
