@@ -1,7 +1,7 @@
 -- What a function on a block does, on the board with words of w bytes: the call runs on the log that the block holds, and the block takes what it gave.
 use Prim.Native.Nat.{ℕ, _*_}
 use mathlib.Core.Path.{_≡_}
-use mathlib.Core.Bool.{Bool, not, _&&_}
+use mathlib.Core.Bool.{Bool, true, false, not, _&&_}
 use mathlib.Core.List.{List}
 use mathlib.Core.Option.{Option, none, some}
 use lib.ListN.{length}
@@ -9,15 +9,17 @@ use lib.Dec.{eqb}
 use Rattle.page.specs.Pick.{pick}
 use Rattle.page.specs.Answered.{gives, refuses}
 use Rattle.engine_state.specs.Answer.{OK, SIZE, SHAPE, STATE}
-use Rattle.engine_state.specs.Log.{Setup, Log}
+use Rattle.engine_state.specs.Log.{Setup, Log, logOf}
 use Rattle.engine_state.specs.Check.{shapeFits}
-use Rattle.engine_call.specs.Outcome.{Lent, Lengths, Done, answered}
+use Rattle.engine_call.specs.Outcome.{Lent, Lengths, Done, answered, still}
 use Rattle.engine_call.specs.Call.{Call, Completion}
 use Rattle.engine_restart.specs.Restart.{Restarted, started, refused, restart}
 use Rattle.engine_restart.specs.Survey.{Surveys}
 use Rattle.engine_read.specs.Read.{readBuffer}
 use Rattle.engine_laws.specs.Call.{call, complete}
 use Rattle.punelovash_block.specs.Block.{blockSize, setupAt, loaded, saved, sized}
+use Rattle.punelovash_block.specs.declared.block.LoadedLent as code
+use Rattle.punelovash_block.specs.declared.block.LoadedLent.the-variants as c
 
 -- the answer's number, and the block and the buffers after a call
 pub record BlockDone : Type 0 where
@@ -29,10 +31,13 @@ pub record BlockDone : Type 0 where
 abbrev pub blockDone : ℕ → List ℕ → List ℕ → List ℕ → BlockDone
 blockDone answer block page hold = record { answer = answer; block = block; page = page; hold = hold }
 
--- a block that holds no log: SHAPE looks at its sizes first, where it has the right length for them; else STATE
+-- SHAPE looks at a block's sizes and at what is lent, where the block has the right length for sizes
+unfoldable pub misfit : ℕ → List ℕ → Lent → Bool
+misfit w block x = eqb (length block) (blockSize w) && not (shapeFits (setupAt w block) (length (x .volume)) (length (x .page)) (length (x .hold)))
+
+-- a block that holds no log: SHAPE comes first, then STATE
 unfoldable pub noLog : ℕ → List ℕ → Lent → ℕ
-noLog w block x =
-    pick (eqb (length block) (blockSize w) && not (shapeFits (setupAt w block) (length (x .volume)) (length (x .page)) (length (x .hold)))) SHAPE STATE
+noLog w block x = pick (misfit w block x) SHAPE STATE
 
 -- all as before but for the answer
 abbrev pub unchanged : ℕ → List ℕ → Lent → BlockDone
@@ -51,6 +56,16 @@ callBlock w block x c = runLoaded w block x (λ l. call l x c) (loaded w block)
 
 abbrev pub completeBlock : ℕ → List ℕ → Lent → Completion → BlockDone
 completeBlock w block x c = runLoaded w block x (λ l. complete l x c) (loaded w block)
+
+-- what is refused by SHAPE
+abbrev pub shapeRefused : ℕ → List ℕ → Lent → BlockDone
+shapeRefused w block x = runLoaded w block x (λ l. still l x SHAPE) (loaded w block)
+
+-- what the code's look at a block and at what is lent says: it holds a log; SHAPE refuses it; or it holds no log, and SHAPE doesn't refuse it
+abbrev pub LoadsLent : ℕ → List ℕ → Lent → code.LoadedLent → Type 0
+LoadsLent w block x (c.Log l) = loaded w block ≡ some (logOf w l)
+LoadsLent w block x c.Misfit = misfit w block x ≡ true
+LoadsLent w block x c.Bad = (loaded w block ≡ none) × (misfit w block x ≡ false)
 
 -- the client's buffer after a read
 abbrev pub readLoaded : Lent → List ℕ → ℕ → Option Log → List ℕ

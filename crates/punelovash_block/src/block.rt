@@ -1,5 +1,6 @@
 // The block that a caller lends: 32 + 3 × width bytes with the log and what the last call gave.
 ghost use mathlib.Core.Path.{_≡_};
+ghost use mathlib.Core.Bool.{true};
 ghost use mathlib.Core.List.{List, [], _∷_};
 ghost use Prim.Native.Nat.{ℕ, _+_, _*_, _≤_, _<_};
 ghost use lib.ListN.{length, getD};
@@ -10,7 +11,7 @@ ghost use Rattle.engine_state.specs.Log.{setupOf, logOf};
 ghost use Rattle.engine_call.specs.Outcome.{Lent, Lengths, doneOf};
 ghost use Rattle.punelovash_block.specs.Block.{Words, WordsIn, blockRest, blockSize, flagsAt, setupAt, logAt, loadedOf, loaded, reportNumbers, withLog};
 ghost use Rattle.punelovash_block.specs.Block.{withReport, withRequest, sized};
-ghost use Rattle.punelovash_block.specs.Call.{blockDone, noLog, ran, AsIfLent};
+ghost use Rattle.punelovash_block.specs.Call.{blockDone, misfit, noLog, ran, shapeRefused, LoadsLent, AsIfLent};
 use crate::numbers;
 use crate::numbers::flag;
 use crate::numbers::report_kind;
@@ -19,8 +20,10 @@ use crate::numbers::report_lost;
 use crate::numbers::report_result;
 use crate::numbers::request_kind;
 use crate::numbers::request_page;
+use engine_call::outcome;
 use engine_call::outcome::Outcome;
 use engine_state::answer;
+use engine_state::answer::Answer;
 use engine_state::answer::Report;
 use engine_state::answer::Request;
 use engine_state::fits;
@@ -148,6 +151,46 @@ pub(crate) fn load(width: usize, block: &[u8]) -> Loaded
     Loaded::Log(log_at(width, block))
 }
 
+// The log in a block that is lent with a volume and two buffers: SHAPE comes first.
+pub enum LoadedLent {
+    Log(Log),
+    Misfit,
+    Bad,
+}
+
+// The page size is compared with the buffer's length first, and then taken from there: so the compiler finds that a call's own look at
+// SHAPE is this one.
+pub(crate) fn load_lent(
+    width: usize,
+    block: &[u8],
+    volume_len: usize,
+    page_len: usize,
+    hold_len: usize,
+) -> LoadedLent
+    requires { ⌜ Width width ⌝ }
+    ensures { λ r. ⌜ ((x : Lent) → Lengths x «volume_len» «page_len» «hold_len» → LoadsLent width (now (block .entry)) x r) ⌝ }
+{
+    if block.len() != block_size(width) {
+        return LoadedLent::Bad;
+    }
+    let geometry = sizes_at(block);
+    if page_len != geometry.page_size {
+        return LoadedLent::Misfit;
+    }
+    let lent = Geometry {
+        page_size: page_len,
+        page_count: geometry.page_count,
+        first_page: geometry.first_page,
+    };
+    if !fits::shape_fits(width, lent, volume_len, page_len, hold_len) {
+        return LoadedLent::Misfit;
+    }
+    match load(width, block) {
+        Loaded::Bad => LoadedLent::Bad,
+        Loaded::Log(log) => LoadedLent::Log(log),
+    }
+}
+
 // The answer to a block that holds no log: SHAPE where its sizes don't fit.
 pub(crate) fn no_log(
     width: usize,
@@ -240,6 +283,18 @@ pub(crate) fn save(width: usize, given: Outcome, block: &mut [u8]) -> u32
     save_report(width, report, block);
     save_request(width, request, block);
     answer::answer_number(answer) as u32
+}
+
+// SHAPE: a block that holds a log says no report and no request, any other stays as it is.
+pub(crate) fn refuse_shape(width: usize, block: &mut [u8]) -> u32
+    requires { ⌜ Width width ⌝ }
+    ensures { λ r. ⌜ ((x : Lent) → misfit width (now (block .entry)) x ≡ true
+        → blockDone r (now (block .exit)) (x .page) (x .hold) ≡ shapeRefused width (now (block .entry)) x) ⌝ }
+{
+    match load(width, block) {
+        Loaded::Bad => SHAPE,
+        Loaded::Log(log) => save(width, outcome::still(log, Answer::SHAPE), block),
+    }
 }
 
 // The block takes a log's sizes, mode and client flags.

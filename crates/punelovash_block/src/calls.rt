@@ -8,6 +8,7 @@ ghost use Rattle.punelovash_block.specs.Block.{isSet, wordFrom, setupAt}
 ghost use Rattle.punelovash_block.specs.Call.{blockDone, callBlock, completeBlock, readBlock, AsIfLent};
 use crate::block;
 use crate::block::Loaded;
+use crate::block::LoadedLent;
 use crate::numbers;
 use engine_erase::erase;
 use engine_read::deferred;
@@ -34,9 +35,10 @@ pub fn append(
         ≡ callBlock width (now (block .entry)) (lend (now (volume .entry)) (now (page .entry)) (now (hold .entry)))
         (c.append (now («data» .entry)) length (wordFrom word)) ⌝ }
 {
-    match block::load(width, block) {
-        Loaded::Bad => block::no_log(width, block, volume.len(), page.len(), hold.len()),
-        Loaded::Log(log) => {
+    match block::load_lent(width, block, volume.len(), page.len(), hold.len()) {
+        LoadedLent::Bad => block::STATE,
+        LoadedLent::Misfit => block::refuse_shape(width, block),
+        LoadedLent::Log(log) => {
             let said = numbers::word_from(word);
             let given = append::append(width, log, volume, page, hold, data, length, said);
             block::save(width, given, block)
@@ -59,9 +61,10 @@ pub fn read<'a>(
         (blockDone r (now (block .exit)) (x .page) (x .hold) ≡ callBlock width (now (block .entry)) x (c.read (lists.length (now (buffer .entry))) length))
         × (now (buffer .exit) ≡ readBlock width (now (block .entry)) x (now (buffer .entry)) length)) ⌝ }
 {
-    match block::load(width, block) {
-        Loaded::Bad => block::no_log(width, block, volume.len(), page.len(), page.len()),
-        Loaded::Log(log) => {
+    match block::load_lent(width, block, volume.len(), page.len(), page.len()) {
+        LoadedLent::Bad => block::STATE,
+        LoadedLent::Misfit => block::refuse_shape(width, block),
+        LoadedLent::Log(log) => {
             let given = read::read(width, log, volume, page, page, buffer, length);
             block::save(width, given, block)
         }
@@ -99,9 +102,10 @@ pub fn sync(
     ensures { λ r. ⌜ blockDone r (now (block .exit)) (now (page .exit)) (now (hold .entry))
         ≡ callBlock width (now (block .entry)) (lend (now (volume .entry)) (now (page .entry)) (now (hold .entry))) (c.sync (wordFrom word)) ⌝ }
 {
-    match block::load(width, block) {
-        Loaded::Bad => block::no_log(width, block, volume.len(), page.len(), hold.len()),
-        Loaded::Log(log) => {
+    match block::load_lent(width, block, volume.len(), page.len(), hold.len()) {
+        LoadedLent::Bad => block::STATE,
+        LoadedLent::Misfit => block::refuse_shape(width, block),
+        LoadedLent::Log(log) => {
             let said = numbers::word_from(word);
             let given = sync::sync(width, log, volume, page, hold, said);
             block::save(width, given, block)
@@ -140,9 +144,10 @@ pub fn write_complete(
     ensures { λ r. ⌜ blockDone r (now (block .exit)) (now (page .exit)) (now (hold .entry))
         ≡ completeBlock width (now (block .entry)) (lend (now (volume .entry)) (now (page .entry)) (now (hold .entry))) (c.write-ended (isSet good)) ⌝ }
 {
-    match block::load(width, block) {
-        Loaded::Bad => block::no_log(width, block, volume.len(), page.len(), hold.len()),
-        Loaded::Log(log) => {
+    match block::load_lent(width, block, volume.len(), page.len(), hold.len()) {
+        LoadedLent::Bad => block::STATE,
+        LoadedLent::Misfit => block::refuse_shape(width, block),
+        LoadedLent::Log(log) => {
             let well = good != 0;
             let given = write_complete::write_complete(width, log, volume, page, hold, well);
             block::save(width, given, block)
@@ -165,9 +170,10 @@ pub fn erase_complete(
         ≡ completeBlock width (now (block .entry)) (lend (now (volume .entry)) (now (page .entry)) (now (hold .entry)))
         (c.erase-ended (isSet good) (wordFrom word)) ⌝ }
 {
-    match block::load(width, block) {
-        Loaded::Bad => block::no_log(width, block, volume.len(), page.len(), hold.len()),
-        Loaded::Log(log) => {
+    match block::load_lent(width, block, volume.len(), page.len(), hold.len()) {
+        LoadedLent::Bad => block::STATE,
+        LoadedLent::Misfit => block::refuse_shape(width, block),
+        LoadedLent::Log(log) => {
             let well = good != 0;
             let said = numbers::word_from(word);
             let given = erase::erase_complete(width, log, volume, page, hold, well, said);

@@ -1,20 +1,58 @@
 -- `punelovash_block::calls::read` meets its contract.
-use Rattle.punelovash_block.proofs.Blocks.{held-size, no-log-runs, log-runs, no-log-reads, log-reads}
+use mathlib.Core.Path.{refl}
+use lib.ListN.{length}
+use Rattle.engine_call.specs.Outcome.{Lent, lend}
+use Rattle.engine_call.specs.Call.{read}
+use Rattle.punelovash_block.specs.Call.{LoadsLent}
+use Rattle.punelovash_block.proofs.Misfits.{lent-size, bad-runs, lent-runs, misfit-calls, bad-reads, misfit-reads, lent-reads}
 use borrow.Author.Needs.{needs}
 use Rattle.punelovash_block.proofs.calls.read.Statement.{statement}
 use Rattle.punelovash_block.proofs.calls.read.Tie as tie
 
+abbrev lent : tie.Start → Lent
+lent s = lend (s .args .volume .now) (s .args .page .now) (s .args .page .now)
+
+-- what the block is found to hold
+loads : (c : tie.After-load-lent) → let start = c .before .before .before .before .before .before in
+    LoadsLent (start .args .width) (start .args .block .now) (lent start) (c .load-lent .result)
+loads c = let start = c .before .before .before .before .before .before in c .load-lent .ensures (lent start) (refl, refl, refl)
+
 save-requires : tie.Need-save-requires
-save-requires c κs = search (held-size, needs)
+save-requires c κs =
+    let at-log = c .before .before .before .before .before .before in
+    let at-load-lent = at-log .before .before in
+    let start = at-load-lent .before .before .before .before .before .before in
+    (start .pre, lent-size (start .args .width) (start .args .block .now) (lent start) (loads at-load-lent) (at-log .log .given .1))
 
 returns : tie.Need-returns
-returns c = (search (no-log-runs, c .no-log .ensures), search no-log-reads)
+returns c =
+    let at-load-lent = c .before .before in
+    let start = at-load-lent .before .before .before .before .before .before in
+    let a = start .args in
+    let bad = c .enum-told .given .1 in (
+      bad-runs (a .width) (a .block .now) (lent start) (loads at-load-lent) _ bad,
+      bad-reads (a .width) (a .block .now) (lent start) (loads at-load-lent) (a .buffer .now) (a .length) bad,
+    )
 
 returns-2 : tie.Need-returns-2
-returns-2 c = (search log-runs, search log-reads)
+returns-2 c =
+    let at-told = c .before .before .before .before in
+    let at-load-lent = at-told .before .before in
+    let start = at-load-lent .before .before .before .before .before .before in
+    let a = start .args in
+    let misfit = at-told .enum-told2 .given .1 in (
+      misfit-calls (a .width) (a .block .now) (lent start) (loads at-load-lent) misfit
+          (c .before .before .refuse-shape .ensures (lent start)) (read (length (a .buffer .now)) (a .length)),
+      misfit-reads (a .width) (a .block .now) (lent start) (loads at-load-lent) (a .buffer .now) (a .length) misfit,
+    )
+
+returns-3 : tie.Need-returns-3
+returns-3 c =
+    let at-load-lent = c .before .before .before .before .before .before .before .before .before .before .before in
+    (search (lent-runs, loads at-load-lent), search (lent-reads, loads at-load-lent))
 
 pub read-spec : {M : Type 1} → statement M
 read-spec =
     tie.close
-    (tie.spec (λ c κs. search needs) (λ c. search needs) (λ c κs. search needs) (λ c. search needs) (λ c κs. search needs) save-requires
-    (λ c. search needs) returns (λ c. search needs) (λ c. search needs) returns-2)
+    (tie.spec (λ c κs. search needs) (λ c. search needs) (λ c. search needs) (λ c κs. search needs) (λ c. search needs) (λ c κs. search needs) save-requires
+    (λ c. search needs) returns (λ c. search needs) returns-2 (λ c. search needs) (λ c. search needs) returns-3)
