@@ -12,14 +12,15 @@ use Rattle.engine_state.specs.Answer.{SHAPE, STATE}
 use Rattle.engine_state.specs.Log.{Setup, Log, logOf}
 use Rattle.engine_state.specs.declared.state.Log as log
 use Rattle.engine_state.specs.Check.{shapeFits}
-use Rattle.engine_call.specs.Outcome.{Outcome, Lent, Done, Stop, firstOf, still}
+use Rattle.engine_call.specs.Outcome.{Outcome, Lent, Done, lend, Stop, firstOf, still}
 use Rattle.engine_call.specs.Call.{Call, Completion}
 use Rattle.engine_call.specs.Gate.{gateBy, called}
 use Rattle.engine_read.specs.Read.{readChecks, readRuns, readBuffer}
-use Rattle.engine_laws.specs.Call.{call, complete, unlessDue}
+use Rattle.engine_laws.specs.Call.{unlessDue}
 use Rattle.engine_laws.proofs.Calls.{checksOf, bodyOf, endOf, call-is, complete-is}
 use Rattle.punelovash_block.specs.Block.{blockSize, setupAt, loaded}
-use Rattle.punelovash_block.specs.Call.{blockDone, misfit, noLog, unchanged, ran, runLoaded, shapeRefused, LoadsLent, readLoaded}
+use Rattle.punelovash_block.specs.Call.{blockDone, misfitBy, misfit, noLog, unchanged, ran, runLoaded, callBlock, completeBlock}
+use Rattle.punelovash_block.specs.Call.{shapeRefused, LoadsLent, readLoaded}
 use Rattle.punelovash_block.specs.declared.block.LoadedLent as loads
 use Rattle.punelovash_block.specs.declared.block.LoadedLent.the-variants as v
 use Rattle.punelovash_block.proofs.Blocks.{loaded-tests}
@@ -36,7 +37,7 @@ called-misfit l x checks body h = rw h
 module _ (w : ℕ) (block : List ℕ) (x : Lent) (m : misfit w block x ≡ true) where
   -- the sizes that it looks at are those of the log
   misfit-log : (l : Log) → loaded w block ≡ some l → Shaped (l .setup) x ≡ false
-  unfolding misfit
+  unfolding misfitBy
   misfit-log l e =
       let t = both (eqb (length block) (blockSize w)) (not (Shaped (setupAt w block) x)) m .1 in
       subst (λ (k : Log). Shaped (k .setup) x ≡ false) (loaded-tests w block e .2) (not-true _ t)
@@ -58,46 +59,52 @@ module _ (w : ℕ) (block : List ℕ) (x : Lent) (m : misfit w block x ≡ true)
       go (some l) e = rw (called-misfit l x (readChecks l (length bytes) n) (readRuns l x n) (misfit-log l e))
 
 -- what every call and every completion comes to, by what a function has loaded
-abbrev Runs : ℕ → List ℕ → Lent → (Log → Done) → ℕ → List ℕ → List ℕ → List ℕ → Type 0
-Runs w block x run a after page hold = blockDone a after page hold ≡ runLoaded w block x run (loaded w block)
+abbrev Loads : ℕ → List ℕ → Lent → loads.LoadedLent → Type 0
+Loads w block x = LoadsLent w block (length (x .volume)) (length (x .page)) (length (x .hold))
 
-module _ (w : ℕ) (block : List ℕ) (x : Lent) {r : loads.LoadedLent} (e : LoadsLent w block x r) where
+module _ (w : ℕ) (block volume page hold : List ℕ) {r : loads.LoadedLent} (e : LoadsLent w block (length volume) (length page) (length hold) r) where
   -- no log
-  pub bad-runs : (run : Log → Done) → r ≡ v.Bad → Runs w block x run STATE block (x .page) (x .hold)
+  pub bad-runs : (run : Log → Done) → r ≡ v.Bad → blockDone STATE block page hold ≡ runLoaded w block (lend volume page hold) run (loaded w block)
   unfolding noLog
-  bad-runs run q = let h : LoadsLent w block x v.Bad = subst (LoadsLent w block x) q e in rw (h .0, h .1)
+  bad-runs run q = let h = subst (Loads w block (lend volume page hold)) q e in rw (h .0, h .1)
 
-  pub bad-reads : (bytes : List ℕ) (n : ℕ) → r ≡ v.Bad → bytes ≡ readLoaded x bytes n (loaded w block)
-  bad-reads bytes n q = let h : LoadsLent w block x v.Bad = subst (LoadsLent w block x) q e in rw (h .0)
+  pub bad-reads : (bytes : List ℕ) (n : ℕ) → r ≡ v.Bad → bytes ≡ readLoaded (lend volume page hold) bytes n (loaded w block)
+  bad-reads bytes n q = let h = subst (Loads w block (lend volume page hold)) q e in rw (h .0)
 
   -- SHAPE
-  module _ (q : r ≡ v.Misfit) {a : ℕ} {after : List ℕ} (refused : misfit w block x ≡ true → unchanged a after x ≡ shapeRefused w block x) where
-    misfits : misfit w block x ≡ true
-    misfits = subst (LoadsLent w block x) q e
+  pub misfit-calls : (c : Call) {a : ℕ} {after : List ℕ} → r ≡ v.Misfit
+      → ((x : Lent) → misfit w block x ≡ true → unchanged a after x ≡ shapeRefused w block x)
+      → blockDone a after page hold ≡ callBlock w block (lend volume page hold) c
+  misfit-calls c q refused =
+      let x = lend volume page hold in
+      let m = subst (Loads w block x) q e in
+      refused x m ∙ misfit-runs w block x m _ (λ l h. call-is l x c ∙ called-misfit l x (checksOf l c) (bodyOf l x c) h)
 
-    pub misfit-calls : (c : Call) → Runs w block x (λ l. call l x c) a after (x .page) (x .hold)
-    misfit-calls c =
-        refused misfits ∙ misfit-runs w block x misfits _ (λ l h. call-is l x c ∙ called-misfit l x (checksOf l c) (bodyOf l x c) h)
+  pub misfit-completes : (c : Completion) {a : ℕ} {after : List ℕ} → r ≡ v.Misfit
+      → ((x : Lent) → misfit w block x ≡ true → unchanged a after x ≡ shapeRefused w block x)
+      → blockDone a after page hold ≡ completeBlock w block (lend volume page hold) c
+  misfit-completes c q refused =
+      let x = lend volume page hold in
+      let m = subst (Loads w block x) q e in
+      refused x m ∙ misfit-runs w block x m _ (λ l h. complete-is l x c ∙ called-misfit l x (unlessDue l c ∷ []) (endOf l x c) h)
 
-    pub misfit-completes : (c : Completion) → Runs w block x (λ l. complete l x c) a after (x .page) (x .hold)
-    misfit-completes c =
-        refused misfits ∙ misfit-runs w block x misfits _ (λ l h. complete-is l x c ∙ called-misfit l x (unlessDue l c ∷ []) (endOf l x c) h)
-
-  pub misfit-reads : (bytes : List ℕ) (n : ℕ) → r ≡ v.Misfit → bytes ≡ readLoaded x bytes n (loaded w block)
-  misfit-reads bytes n q = misfit-buffer w block x (subst (LoadsLent w block x) q e) bytes n
+  pub misfit-reads : (bytes : List ℕ) (n : ℕ) → r ≡ v.Misfit → bytes ≡ readLoaded (lend volume page hold) bytes n (loaded w block)
+  misfit-reads bytes n q = misfit-buffer w block (lend volume page hold) (subst (Loads w block (lend volume page hold)) q e) bytes n
 
   -- a log
   module _ {l : log.Log} (q : r ≡ v.Log l) where
     holds : loaded w block ≡ some (logOf w l)
-    holds = subst (LoadsLent w block x) q e
+    holds = subst (Loads w block (lend volume page hold)) q e
 
     pub lent-size : length block ≡ blockSize w
     lent-size = loaded-tests w block holds .0
 
-    pub lent-runs : (run : Log → Done) (o : Outcome) {a : ℕ} {after page hold : List ℕ}
+    pub lent-runs : (run : Log → Done) (o : Outcome) {a : ℕ} {after page' hold' : List ℕ}
         → ((page hold : List ℕ) → blockDone a after page hold ≡ ran w block (record { outcome = o; page = page; hold = hold }))
-        → record { outcome = o; page = page; hold = hold } ≡ run (logOf w l) → Runs w block x run a after page hold
-    lent-runs run o {page} {hold} s d = rw holds (s page hold ∙ ap (ran w block) d)
+        → record { outcome = o; page = page'; hold = hold' } ≡ run (logOf w l)
+        → blockDone a after page' hold' ≡ runLoaded w block (lend volume page hold) run (loaded w block)
+    lent-runs run o {page' = page'} {hold' = hold'} s d = rw holds (s page' hold' ∙ ap (ran w block) d)
 
-    pub lent-reads : (bytes : List ℕ) (n : ℕ) {after : List ℕ} → after ≡ readBuffer (logOf w l) x bytes n → after ≡ readLoaded x bytes n (loaded w block)
+    pub lent-reads : (bytes : List ℕ) (n : ℕ) {after : List ℕ} → after ≡ readBuffer (logOf w l) (lend volume page hold) bytes n
+        → after ≡ readLoaded (lend volume page hold) bytes n (loaded w block)
     lent-reads bytes n h = rw holds h

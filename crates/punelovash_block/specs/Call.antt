@@ -31,9 +31,12 @@ pub record BlockDone : Type 0 where
 abbrev pub blockDone : ℕ → List ℕ → List ℕ → List ℕ → BlockDone
 blockDone answer block page hold = record { answer = answer; block = block; page = page; hold = hold }
 
--- SHAPE looks at a block's sizes and at what is lent, where the block has the right length for sizes
-unfoldable pub misfit : ℕ → List ℕ → Lent → Bool
-misfit w block x = eqb (length block) (blockSize w) && not (shapeFits (setupAt w block) (length (x .volume)) (length (x .page)) (length (x .hold)))
+-- SHAPE looks at a block's sizes and at what is lent, where the block has the right length for sizes; by the lengths that are lent
+unfoldable pub misfitBy : ℕ → List ℕ → ℕ → ℕ → ℕ → Bool
+misfitBy w block volume page hold = eqb (length block) (blockSize w) && not (shapeFits (setupAt w block) volume page hold)
+
+abbrev pub misfit : ℕ → List ℕ → Lent → Bool
+misfit w block x = misfitBy w block (length (x .volume)) (length (x .page)) (length (x .hold))
 
 -- a block that holds no log: SHAPE comes first, then STATE
 unfoldable pub noLog : ℕ → List ℕ → Lent → ℕ
@@ -62,10 +65,10 @@ abbrev pub shapeRefused : ℕ → List ℕ → Lent → BlockDone
 shapeRefused w block x = runLoaded w block x (λ l. still l x SHAPE) (loaded w block)
 
 -- what the code's look at a block and at what is lent says: it holds a log; SHAPE refuses it; or it holds no log, and SHAPE doesn't refuse it
-abbrev pub LoadsLent : ℕ → List ℕ → Lent → code.LoadedLent → Type 0
-LoadsLent w block x (c.Log l) = loaded w block ≡ some (logOf w l)
-LoadsLent w block x c.Misfit = misfit w block x ≡ true
-LoadsLent w block x c.Bad = (loaded w block ≡ none) × (misfit w block x ≡ false)
+abbrev pub LoadsLent : ℕ → List ℕ → ℕ → ℕ → ℕ → code.LoadedLent → Type 0
+LoadsLent w block volume page hold (c.Log l) = loaded w block ≡ some (logOf w l)
+LoadsLent w block volume page hold c.Misfit = misfitBy w block volume page hold ≡ true
+LoadsLent w block volume page hold c.Bad = (loaded w block ≡ none) × (misfitBy w block volume page hold ≡ false)
 
 -- the client's buffer after a read
 abbrev pub readLoaded : Lent → List ℕ → ℕ → Option Log → List ℕ

@@ -168,7 +168,7 @@ pub(crate) fn load_lent(
     hold_len: usize,
 ) -> LoadedLent
     requires { ⌜ Width width ⌝ }
-    ensures { λ r. ⌜ ((x : Lent) → Lengths x «volume_len» «page_len» «hold_len» → LoadsLent width (now (block .entry)) x r) ⌝ }
+    ensures { λ r. ⌜ LoadsLent width (now (block .entry)) «volume_len» «page_len» «hold_len» r ⌝ }
 {
     if block.len() != block_size(width) {
         return LoadedLent::Bad;

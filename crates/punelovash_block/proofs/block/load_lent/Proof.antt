@@ -8,7 +8,7 @@ use borrow.Author.Tests.{eq-eqb, ne-eqb, not-true, not-false}
 use Rattle.engine_state.specs.Log.{Setup}
 use Rattle.engine_state.specs.Check.{shapeFits}
 use Rattle.punelovash_block.specs.Block.{blockSize, setupFrom, setupAt, loaded}
-use Rattle.punelovash_block.specs.Call.{misfit}
+use Rattle.punelovash_block.specs.Call.{misfitBy}
 use Rattle.punelovash_block.proofs.Blocks.{holds-none, holds-log}
 use borrow.Author.Needs.{needs}
 use Rattle.punelovash_block.proofs.block.load_lent.Statement.{statement}
@@ -43,39 +43,39 @@ shaped c t =
     ∙ t
 
 returns : tie.Need-returns
-unfolding loaded misfit
-returns c x e =
+unfolding loaded misfitBy
+returns c =
     let a = c .before .before .before .args in
     let no : eqb (length (a .block .now)) (blockSize (a .width)) ≡ false = ne-eqb _ _ (rw (c .before .block-size .ensures) at (c .if1 .taken)) in
     (rw no, rw no)
 
 returns-2 : tie.Need-returns-2
-unfolding misfit
-returns-2 c x e =
+unfolding misfitBy
+returns-2 c =
     let start = c .before .before .before .before .before .before in
     let a = start .args in
     let size = ap (λ (s : Setup). s .p) (c .before .before .sizes-at .ensures .0 (a .width)) in
     let no = other-page (setupAt (a .width) (a .block .now)) (a .volume-len) (a .page-len) (a .hold-len) (λ k. c .if2 .taken (k ∙ sym size)) in
-    rw (e .0, e .1, e .2, long (c .before .before .before), no)
+    rw (long (c .before .before .before), no)
 
 returns-3 : tie.Need-returns-3
-unfolding misfit
-returns-3 c x e =
+unfolding misfitBy
+returns-3 c =
     let at-else1 = c .before .before .before .before .before in
-    rw (e .0, e .1, e .2, long at-else1, shaped (c .before) (not-true _ (c .if3 .taken)))
+    rw (long at-else1, shaped (c .before) (not-true _ (c .if3 .taken)))
 
 returns-4 : tie.Need-returns-4
-unfolding misfit
-returns-4 c x e =
+unfolding misfitBy
+returns-4 c =
     let at-load = c .before .before in
     let at-shape-fits = at-load .before .before in
     let at-else1 = at-shape-fits .before .before .before .before in
     let a = at-else1 .before .before .before .args in
     let yes = shaped at-shape-fits (not-false _ (at-load .before .if3 .left)) in
-    (holds-none (a .width) (a .block .now) (at-load .load .ensures .0) (c .enum-told .given .1), rw (e .0, e .1, e .2, long at-else1, yes))
+    (holds-none (a .width) (a .block .now) (at-load .load .ensures .0) (c .enum-told .given .1), rw (long at-else1, yes))
 
 returns-5 : tie.Need-returns-5
-returns-5 c x e =
+returns-5 c =
     let at-load = c .before .before .before in
     let start = at-load .before .before .before .before .before .before .before .before .before in
     holds-log (start .args .width) (start .args .block .now) (at-load .load .ensures .0) (c .before .log .given .1)

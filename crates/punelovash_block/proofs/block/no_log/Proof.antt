@@ -6,7 +6,7 @@ use lib.Dec.{eqb}
 use borrow.Author.Tests.{eq-eqb, ne-eqb}
 use Rattle.engine_state.specs.Check.{shapeFits}
 use Rattle.punelovash_block.specs.Block.{blockSize, setupAt}
-use Rattle.punelovash_block.specs.Call.{misfit, noLog}
+use Rattle.punelovash_block.specs.Call.{misfitBy, noLog}
 use borrow.Author.Needs.{needs}
 use Rattle.punelovash_block.proofs.block.no_log.Statement.{statement}
 use Rattle.punelovash_block.proofs.block.no_log.Tie as tie
@@ -27,15 +27,15 @@ shaped c t =
     sym (rw (c .before .sizes-at .ensures .0 (a .width)) at (c .shape-fits .ensures (setupAt (a .width) (a .block .now) .circular))) ∙ t
 
 returns : tie.Need-returns
-unfolding noLog misfit
+unfolding noLog misfitBy
 returns c x e = rw (ne-eqb _ _ (rw (c .before .block-size .ensures) at (c .if1 .taken)))
 
 returns-2 : tie.Need-returns-2
-unfolding noLog misfit
+unfolding noLog misfitBy
 returns-2 c x e = rw (e .0, e .1, e .2, long (c .before .before .before), shaped (c .before) (c .if2 .taken))
 
 returns-3 : tie.Need-returns-3
-unfolding noLog misfit
+unfolding noLog misfitBy
 returns-3 c x e = rw (e .0, e .1, e .2, long (c .before .before .before), shaped (c .before) (c .if2 .left))
 
 pub no-log-spec : {M : Type 1} → statement M

@@ -2,13 +2,13 @@
 use mathlib.Core.Path.{sym, subst}
 use borrow.Author.Tests.{ne-eqb}
 use Rattle.engine_state.specs.Log.{Setup}
-use Rattle.punelovash_block.specs.Call.{misfit, noLog, AsIfLent}
+use Rattle.punelovash_block.specs.Call.{misfitBy, noLog, AsIfLent}
 use borrow.Author.Needs.{needs}
 use Rattle.punelovash_block.proofs.block.no_log_alone.Statement.{statement}
 use Rattle.punelovash_block.proofs.block.no_log_alone.Tie as tie
 
 returns : tie.Need-returns
-unfolding noLog misfit
+unfolding noLog misfitBy
 returns c x e = rw (ne-eqb _ _ (rw (c .before .block-size .ensures) at (c .if1 .taken)))
 
 returns-2 : tie.Need-returns-2
