@@ -57,9 +57,9 @@
  *     23 LIMIT   as before    an append that needs a page at C
  *
  * What the driver's word leaves is said at each call. SHAPE, STATE and STRAY come before all else; only a block of another
- * length has no sizes that SHAPE could look at: it is STATE. A block of another length, with flags above 7 or with a state above 5
- * does not change at all, nor does any block at a refused restart: from PUNELOVASH_AT_REPORT on it may still be that of an earlier
- * call. After any other refusal it says no report and no request.
+ * length has no sizes that SHAPE could look at: it is STATE. A call that is refused leaves every byte of a block of another length,
+ * with flags above 7 or with a state above 5, and a refused restart those of any block: from PUNELOVASH_AT_REPORT on it may still
+ * be that of an earlier call. After any other refusal it says no report and no request.
  *
  * How the flash is driven
  * -----------------------
