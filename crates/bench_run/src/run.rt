@@ -70,7 +70,7 @@ fn run_list(
     }
 }
 
-// The log restarts once more, with the read client set, and what it holds is read.
+// The log restarts once more, with the read client set and the buffers as they are, and what it holds is read.
 fn find(
     setup: Setup,
     world: World,
@@ -87,7 +87,8 @@ fn find(
         spec.Ran (again g (leftOf left) «append_client» (record { world = x; book = book })) (foundLogOf r)
         (lend (now (volume .exit)) (now (page .exit)) (now (hold .entry))) begun (now (out .exit))) ⌝ }
 {
-    let done = power::restart_again(setup, world, left, true, append_client, volume, page, hold);
+    let off = power::cut(setup, world, left, volume, page);
+    let done = power::restart(setup, off, true, append_client, volume, page, hold);
     let restarted = done.world;
     let log = restarted.log;
     page::bytes::fill(out, 0, 0);

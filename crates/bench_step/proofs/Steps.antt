@@ -20,7 +20,7 @@ use Rattle.bench_flash.specs.Flash.{Left, leftAfter}
 use Rattle.bench_flash.specs.declared.event.Call as code
 use Rattle.bench_flash.specs.declared.event.Call.the-variants as c
 use Rattle.bench_flash.specs.Event.{Event, Restart, cut, restart, callOf}
-use Rattle.bench.specs.World.{World, Told, Step, ends, completionStep, undelivered, stepOn, stepOff, step}
+use Rattle.bench.specs.World.{World, Told, Step, ends, completionStep, undelivered, stepOn, stepOff, step, cutStep}
 use Rattle.bench_step.specs.Step.{endStep, comes, restartsAfter}
 
 -- an event by the power
@@ -43,8 +43,9 @@ word-alone (c.Erase word) bytes room = refl
 
 -- a completion of the operation under way, which has ended
 pub comes-due : (g : Setup) (x : World) (k : Completion) (left l : Left) (over : Step) {s : Step}
-    → ends k (x .operation) ≡ true → l ≡ leftAfter (endsWell k) left → over ≡ endStep g x true l → s ≡ comes g over k → s ≡ completionStep g x k left
-comes-due g x k left l over due well ended e = e ∙ ap (λ (o : Step). comes g o k) ended ∙ rw (due, well)
+    → x .power ≡ true → ends k (x .operation) ≡ true → l ≡ leftAfter (endsWell k) left → over ≡ endStep g x l → s ≡ comes g over k
+    → s ≡ completionStep g x k left
+comes-due g x k left l over power due well ended e = e ∙ ap (λ (o : Step). comes g o k) ended ∙ rw (power, due, well)
 
 -- a restart is a cut first
 pub cut-first : (g : Setup) (x : World) (r : Restart) (over : Step) {s : Step}
@@ -52,7 +53,7 @@ pub cut-first : (g : Setup) (x : World) (r : Restart) (over : Step) {s : Step}
 unfolding step
 cut-first g x r over ended e = e ∙ ap (λ (o : Step). restartsAfter g o r) ended ∙ go (x .power)
   where
-    go : (t : Bool) → restartsAfter g (pick t (endStep g x false (r .left)) (undelivered x)) r ≡ pick t (stepOn g x (restart r)) (stepOff g x (restart r))
+    go : (t : Bool) → restartsAfter g (pick t (cutStep (g .p) x (r .left)) (undelivered x)) r ≡ pick t (stepOn g x (restart r)) (stepOff g x (restart r))
     go true = refl
     go false = refl
 

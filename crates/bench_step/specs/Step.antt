@@ -58,9 +58,9 @@ toldOf g t = record {
 abbrev pub stepOf : Setup → step.Step → List ℕ → List ℕ → List ℕ → Step
 stepOf g s page hold volume = record { world = worldOf g (s .world) page hold volume; told = toldOf g (s .told) }
 
--- the operation under way ends, with the power on or off
-abbrev pub endStep : Setup → World → Bool → Left → Step
-endStep g x power left = record { world = ending (g .p) x power left; told = quiet (endedBy (x .operation) left) }
+-- the operation under way ends
+abbrev pub endStep : Setup → World → Left → Step
+endStep g x left = record { world = ending (g .p) x (x .power) left; told = quiet (endedBy (x .operation) left) }
 
 -- after such a step, or one that did nothing, a completion is delivered
 abbrev pub comes : Setup → Step → Completion → Step

@@ -1,11 +1,11 @@
-// Any call of the log, and any completion.
+// Any call of the log, and what a completion says.
 ghost use mathlib.Core.Path.{_≡_};
 ghost use Prim.Native.Nat.{ℕ};
 ghost use mathlib.Core.List.{[]};
 ghost use lib.ListN as lists;
 ghost use Rattle.engine_state.specs.Log.{logOf};
 ghost use Rattle.engine_call.specs.Outcome.{lend, doneOf, wordOf};
-ghost use Rattle.engine_call.specs.Call.{callWord, endsWell, completionWord};
+ghost use Rattle.engine_call.specs.Call.{callWord, endsWell};
 ghost use Rattle.bench_flash.specs.Flash.{operationOf, leftOf, leftAfter};
 ghost use Rattle.bench_flash.specs.Event.{callOf, completionOf};
 ghost use Rattle.engine_laws.specs.Call as engine;
@@ -73,38 +73,6 @@ pub(crate) fn call_word(call: Call) -> Driver
         Call::Seek(_) => Driver::OK,
         Call::Deferred => Driver::OK,
         Call::Erase(word) => word,
-    }
-}
-
-// A completion on the log.
-pub fn complete(
-    width: usize,
-    log: Log,
-    completion: Completion,
-    volume: &[u8],
-    page: &mut [u8],
-    hold: &[u8],
-) -> Outcome
-    ensures { λ r. ⌜ doneOf width r (now (page .exit)) (now (hold .entry))
-        ≡ engine.complete (logOf width log) (lend (now (volume .entry)) (now (page .entry)) (now (hold .entry))) (completionOf completion) ⌝ }
-{
-    match completion {
-        Completion::Write(good) => {
-            engine_write::write_complete::write_complete(width, log, volume, page, hold, good)
-        }
-        Completion::Erase(good, word) => {
-            engine_erase::erase::erase_complete(width, log, volume, page, hold, good, word)
-        }
-    }
-}
-
-// The driver's word to the request that a completion may make.
-pub(crate) fn completion_word(completion: Completion) -> Driver
-    ensures { λ r. ⌜ wordOf r ≡ completionWord (completionOf completion) ⌝ }
-{
-    match completion {
-        Completion::Write(_) => Driver::OK,
-        Completion::Erase(_, word) => word,
     }
 }
 

@@ -30,19 +30,13 @@ use engine_restart::restart::Restarted;
 use engine_state::answer::Answer;
 use engine_state::state::Log;
 
-// The operation under way ends, with the power on or off, and its slot holds what it left.
-pub(crate) fn end(
-    setup: Setup,
-    world: World,
-    power: bool,
-    left: Left,
-    volume: &mut [u8],
-    page: &[u8],
-) -> Step
+// The operation under way ends, and its slot holds what it left.
+pub(crate) fn end(setup: Setup, world: World, left: Left, volume: &mut [u8], page: &[u8]) -> Step
     ensures { λ r. ⌜ ((hold : List ℕ) → let g = givenSetup setup in let x = worldOf g world (now (page .entry)) hold (now (volume .entry)) in
-        stepOf g r (x .page) hold (now (volume .exit)) ≡ endStep g x power (leftOf left)) ⌝ }
+        stepOf g r (x .page) hold (now (volume .exit)) ≡ endStep g x (leftOf left)) ⌝ }
 {
     let p = setup.geometry.page_size;
+    let power = world.power;
     let log = world.log;
     let operation = world.operation;
     match operation {
@@ -64,7 +58,14 @@ pub fn cut(setup: Setup, world: World, left: Left, volume: &mut [u8], page: &[u8
         stepOf g r (x .page) hold (now (volume .exit)) ≡ bench.step g x (event.cut (leftOf left))) ⌝ }
 {
     if world.power {
-        return end(setup, world, false, left, volume, page);
+        let log = world.log;
+        let operation = world.operation;
+        let off = World {
+            power: false,
+            log,
+            operation,
+        };
+        return end(setup, off, left, volume, page);
     }
     world::undelivered(world)
 }
@@ -145,23 +146,4 @@ pub(crate) fn restart_with(
     let read_client = restart.read_client;
     let append_client = restart.append_client;
     self::restart(setup, off, read_client, append_client, volume, page, hold)
-}
-
-// A further restart, with the buffers as they are; with the power on it is a cut first.
-pub fn restart_again(
-    setup: Setup,
-    world: World,
-    left: Left,
-    read_client: bool,
-    append_client: bool,
-    volume: &mut [u8],
-    page: &mut [u8],
-    hold: &[u8],
-) -> Step
-    ensures { λ r. ⌜ (let g = givenSetup setup in let x = worldOf g world (now (page .entry)) (now (hold .entry)) (now (volume .entry)) in
-        stepOf g r (now (page .exit)) (x .hold) (now (volume .exit))
-        ≡ bench.step g x (event.restart (inPlace (leftOf left) «read_client» «append_client» x))) ⌝ }
-{
-    let off = cut(setup, world, left, volume, page);
-    restart(setup, off, read_client, append_client, volume, page, hold)
 }

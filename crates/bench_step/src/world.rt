@@ -8,15 +8,11 @@ ghost use Rattle.engine_state.specs.Answer.{no-report};
 ghost use Rattle.engine_state.specs.Log as setups;
 ghost use Rattle.engine_state.specs.Log.{logOf};
 ghost use Rattle.engine_restart.specs.Restart.{atRest};
-ghost use Rattle.engine_call.specs.Outcome.{doneOf, wordOf};
 ghost use Rattle.bench_flash.specs.Flash.{no-operation};
 ghost use Rattle.bench.specs.World as bench;
 ghost use Rattle.bench_step.specs.Step.{givenSetup, worldOf, endedOf, answerOf, stepOf};
-use bench_flash::operation;
 use bench_flash::operation::Left;
 use bench_flash::operation::Operation;
-use engine_call::outcome::Driver;
-use engine_call::outcome::Outcome;
 use engine_state::answer::Answer;
 use engine_state::answer::Report;
 use engine_state::answer::Request;
@@ -85,38 +81,6 @@ pub fn begin(setup: Setup) -> World
             length: 0,
         },
         operation: Operation::Nothing,
-    }
-}
-
-// A call was delivered: an operation starts where it has a request and the driver's word is OK.
-pub(crate) fn delivered(
-    setup: Setup,
-    world: World,
-    ended: Ended,
-    given: Outcome,
-    word: Driver,
-) -> Step
-    ensures { λ r. ⌜ ((page hold volume page' hold' : List ℕ) → let g = givenSetup setup in stepOf g r page' hold' volume
-        ≡ bench.delivered (g .first) (worldOf g world page hold volume) (endedOf ended) (doneOf (g .w) given page' hold') (wordOf word)) ⌝ }
-{
-    let former = world.operation;
-    let log = given.log;
-    let answer = given.answer;
-    let report = given.report;
-    let request = given.request;
-    let operation = operation::start(former, request, word, setup.geometry.first_page);
-    Step {
-        world: World {
-            power: true,
-            log,
-            operation,
-        },
-        told: Told {
-            ended,
-            answer: Delivery::Answer(answer),
-            report,
-            request,
-        },
     }
 }
 

@@ -1,7 +1,6 @@
 // An outcome, written out: the answer, the report, the request, the state, O, R, A and the kept length.
 use engine_call::outcome::Outcome;
 use engine_state::answer;
-use engine_state::answer::Appended;
 use engine_state::answer::Report;
 use engine_state::answer::Request;
 use engine_state::state::Log;
@@ -12,11 +11,11 @@ fn flag(b: bool) -> usize {
     if b { 1 } else { 0 }
 }
 
-fn append_done(length: usize, lost: bool, result: Appended) {
+fn append_done(length: usize, lost: bool, result: u8) {
     print::word(b"append_done");
     print::number(length);
     print::number(flag(lost));
-    print::number(answer::append_number(result) as usize);
+    print::number(result as usize);
 }
 
 fn done(text: &[u8], result: usize) {
@@ -34,8 +33,8 @@ fn report(r: Report) {
     match r {
         Report::Nothing => print::word(b"-"),
         Report::AppendDone(length, lost, result) => append_done(length, lost, result),
-        Report::SyncDone(result) => done(b"sync_done", answer::sync_number(result) as usize),
-        Report::EraseDone(result) => done(b"erase_done", answer::erase_number(result) as usize),
+        Report::SyncDone(result) => done(b"sync_done", result as usize),
+        Report::EraseDone(result) => done(b"erase_done", result as usize),
         Report::ReadDone(length) => read_done(length),
         Report::SeekDone => done(b"seek_done", 0),
     }

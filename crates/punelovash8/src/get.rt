@@ -8,7 +8,7 @@ use punelovash_block::get;
 pub extern "C" fn punelovash8_log_start(block: &[u8]) -> usize
     ensures { λ r. ⌜ r ≡ oldestOf 8 (now (block .entry)) ⌝ }
 {
-    get::log_start(8, block)
+    get::ids(8, block).oldest
 }
 
 // The append ID: that of the next entry, where it fits in the page.
@@ -16,7 +16,7 @@ pub extern "C" fn punelovash8_log_start(block: &[u8]) -> usize
 pub extern "C" fn punelovash8_log_end(block: &[u8]) -> usize
     ensures { λ r. ⌜ r ≡ appendOf 8 (now (block .entry)) ⌝ }
 {
-    get::log_end(8, block)
+    get::ids(8, block).append
 }
 
 // The ID of the next entry to read.
@@ -24,7 +24,7 @@ pub extern "C" fn punelovash8_log_end(block: &[u8]) -> usize
 pub extern "C" fn punelovash8_next_read_entry_id(block: &[u8]) -> usize
     ensures { λ r. ⌜ r ≡ readOf 8 (now (block .entry)) ⌝ }
 {
-    get::next_read_entry_id(8, block)
+    get::ids(8, block).read
 }
 
 // The bytes of the volume without its page headers; 0 for sizes that SHAPE refuses.

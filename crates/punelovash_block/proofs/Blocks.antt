@@ -14,11 +14,10 @@ use Rattle.engine_state.specs.Log.{Log, logOf}
 use Rattle.engine_state.specs.declared.state.Log as log
 use Rattle.punelovash_block.specs.declared.block.Loaded as loads
 use Rattle.punelovash_block.specs.declared.block.Loaded.the-variants as v
-use Rattle.engine_call.specs.Outcome.{Outcome, Lent, Lengths, Done, lend}
+use Rattle.engine_call.specs.Outcome.{Outcome, Lent, Lengths, Done}
 use Rattle.punelovash_block.specs.Block.{blockSize, flagsAt, stateAt, setupAt, logAt, loaded, Words, WordsIn, loadedOf}
-use Rattle.punelovash_block.specs.Call.{blockDone, noLog, ran, runLoaded, readLoaded, AsIfLent}
+use Rattle.punelovash_block.specs.Call.{blockDone, noLog, ran, runLoaded, AsIfLent}
 use Rattle.punelovash_block.specs.Get.{orZero}
-use Rattle.engine_read.specs.Read.{readBuffer}
 
 -- a product of two words fits 64 bits
 pub product-fits : (n p : ℕ) → n < 2 ^ 32 → p < 2 ^ 32 → n * p < 2 ^ 64
@@ -73,29 +72,18 @@ held-words r l q h = rw q at h
 
 -- what every call and every completion comes to: on a block that holds no log, and on one that holds a log
 module _ (w : ℕ) (block : List ℕ) {r : loads.Loaded} (e : loadedOf w r ≡ loaded w block) where
-  pub no-log-runs : (run : Log → Done) (volume page hold : List ℕ) {a : ℕ} → r ≡ v.Bad → a ≡ noLog w block (lend volume page hold)
-      → blockDone a block page hold ≡ runLoaded w block (lend volume page hold) run (loaded w block)
-  no-log-runs run volume page hold q n = rw (holds-none w block e q, n)
-
-  pub no-log-alone : (run : Log → Done) (x : Lent) {a : ℕ} → r ≡ v.Bad → a ≡ noLog w block x
+  pub no-log-runs : (run : Log → Done) (x : Lent) {a : ℕ} → r ≡ v.Bad → a ≡ noLog w block x
       → blockDone a block (x .page) (x .hold) ≡ runLoaded w block x run (loaded w block)
-  no-log-alone run x q n = rw (holds-none w block e q, n)
+  no-log-runs run x q n = rw (holds-none w block e q, n)
 
   pub log-runs : (run : Log → Done) (x : Lent) {l : log.Log} (o : Outcome) {a : ℕ} {after page hold : List ℕ} → r ≡ v.Log l
       → ((page hold : List ℕ) → blockDone a after page hold ≡ ran w block (record { outcome = o; page = page; hold = hold }))
       → record { outcome = o; page = page; hold = hold } ≡ run (logOf w l) → blockDone a after page hold ≡ runLoaded w block x run (loaded w block)
   log-runs run x o {page} {hold} q s d = rw (holds-log w block e q) (s page hold ∙ ap (ran w block) d)
 
-  -- a getter's number, and the buffer of a read
+  -- a getter's number
   pub no-log-gives : (f : Log → ℕ) → r ≡ v.Bad → 0 ≡ orZero f (loaded w block)
   no-log-gives f q = rw (holds-none w block e q)
 
   pub log-gives : (f : Log → ℕ) {l : log.Log} {n : ℕ} → r ≡ v.Log l → n ≡ f (logOf w l) → n ≡ orZero f (loaded w block)
   log-gives f q n = rw (holds-log w block e q) n
-
-  pub no-log-reads : (x : Lent) (bytes : List ℕ) (n : ℕ) → r ≡ v.Bad → bytes ≡ readLoaded x bytes n (loaded w block)
-  no-log-reads x bytes n q = rw (holds-none w block e q)
-
-  pub log-reads : (x : Lent) (bytes : List ℕ) (n : ℕ) {l : log.Log} {after : List ℕ} → r ≡ v.Log l → after ≡ readBuffer (logOf w l) x bytes n
-      → after ≡ readLoaded x bytes n (loaded w block)
-  log-reads x bytes n q h = rw (holds-log w block e q) h

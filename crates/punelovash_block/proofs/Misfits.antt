@@ -62,6 +62,10 @@ module _ (w : ℕ) (block : List ℕ) (x : Lent) (m : misfit w block x ≡ true)
 abbrev Loads : ℕ → List ℕ → Lent → loads.LoadedLent → Type 0
 Loads w block x = LoadsLent w block (length (x .volume)) (length (x .page)) (length (x .hold))
 
+-- what a function that refuses by SHAPE promises
+abbrev Refuses : ℕ → List ℕ → ℕ → List ℕ → Type 0
+Refuses w block a after = (x : Lent) → misfit w block x ≡ true → unchanged a after x ≡ shapeRefused w block x
+
 module _ (w : ℕ) (block volume page hold : List ℕ) {r : loads.LoadedLent} (e : LoadsLent w block (length volume) (length page) (length hold) r) where
   -- no log
   pub bad-runs : (run : Log → Done) → r ≡ v.Bad → blockDone STATE block page hold ≡ runLoaded w block (lend volume page hold) run (loaded w block)
@@ -72,21 +76,21 @@ module _ (w : ℕ) (block volume page hold : List ℕ) {r : loads.LoadedLent} (e
   bad-reads bytes n q = let h = subst (Loads w block (lend volume page hold)) q e in rw (h .0)
 
   -- SHAPE
-  pub misfit-calls : (c : Call) {a : ℕ} {after : List ℕ} → r ≡ v.Misfit
-      → ((x : Lent) → misfit w block x ≡ true → unchanged a after x ≡ shapeRefused w block x)
-      → blockDone a after page hold ≡ callBlock w block (lend volume page hold) c
-  misfit-calls c q refused =
+  misfit-ends : (run : Log → Done) → ((l : Log) → Shaped (l .setup) (lend volume page hold) ≡ false → run l ≡ still l (lend volume page hold) SHAPE)
+      → {a : ℕ} {after : List ℕ} → r ≡ v.Misfit → Refuses w block a after
+      → blockDone a after page hold ≡ runLoaded w block (lend volume page hold) run (loaded w block)
+  misfit-ends run f q refused =
       let x = lend volume page hold in
       let m = subst (Loads w block x) q e in
-      refused x m ∙ misfit-runs w block x m _ (λ l h. call-is l x c ∙ called-misfit l x (checksOf l c) (bodyOf l x c) h)
+      refused x m ∙ misfit-runs w block x m run f
 
-  pub misfit-completes : (c : Completion) {a : ℕ} {after : List ℕ} → r ≡ v.Misfit
-      → ((x : Lent) → misfit w block x ≡ true → unchanged a after x ≡ shapeRefused w block x)
+  pub misfit-calls : (c : Call) {a : ℕ} {after : List ℕ} → r ≡ v.Misfit → Refuses w block a after
+      → blockDone a after page hold ≡ callBlock w block (lend volume page hold) c
+  misfit-calls c = let x = lend volume page hold in misfit-ends _ (λ l h. call-is l x c ∙ called-misfit l x (checksOf l c) (bodyOf l x c) h)
+
+  pub misfit-completes : (c : Completion) {a : ℕ} {after : List ℕ} → r ≡ v.Misfit → Refuses w block a after
       → blockDone a after page hold ≡ completeBlock w block (lend volume page hold) c
-  misfit-completes c q refused =
-      let x = lend volume page hold in
-      let m = subst (Loads w block x) q e in
-      refused x m ∙ misfit-runs w block x m _ (λ l h. complete-is l x c ∙ called-misfit l x (unlessDue l c ∷ []) (endOf l x c) h)
+  misfit-completes c = let x = lend volume page hold in misfit-ends _ (λ l h. complete-is l x c ∙ called-misfit l x (unlessDue l c ∷ []) (endOf l x c) h)
 
   pub misfit-reads : (bytes : List ℕ) (n : ℕ) → r ≡ v.Misfit → bytes ≡ readLoaded (lend volume page hold) bytes n (loaded w block)
   misfit-reads bytes n q = misfit-buffer w block (lend volume page hold) (subst (Loads w block (lend volume page hold)) q e) bytes n

@@ -183,17 +183,24 @@ round-trip w block o h s =
     let few : ltb 5 (getD after stateAt 0) ≡ false = rw (t .0) (le-ltb 5 _ (state .0)) in
     rw (eq-eqb _ _ (puts-size 5 stateAt ps block r (h .size)), small, few) (ap some log)
 
+-- a flag's bit is 0 or 1, and tells it
+bit : (b : Bool) → pick b 1 0 ≤ 1
+bit true = omega arith
+bit false = omega arith
+
+told : (b : Bool) (n : ℕ) → n ≡ pick b 1 0 → eqb n 1 ≡ b
+told true n e = eq-eqb n 1 e
+told false n e = rw e
+
 -- flags that were put are told
 flags-back : (a b c : Bool)
     → (ltb 7 (flags a b c) ≡ false) × (eqb (flags a b c % 2) 1 ≡ a) × (eqb (flags a b c / 2 % 2) 1 ≡ b) × (eqb (flags a b c / 4 % 2) 1 ≡ c)
-flags-back true true true = (refl, refl, refl, refl)
-flags-back true true false = (refl, refl, refl, refl)
-flags-back true false true = (refl, refl, refl, refl)
-flags-back true false false = (refl, refl, refl, refl)
-flags-back false true true = (refl, refl, refl, refl)
-flags-back false true false = (refl, refl, refl, refl)
-flags-back false false true = (refl, refl, refl, refl)
-flags-back false false false = (refl, refl, refl, refl)
+flags-back a b c =
+    let x = bit a in
+    let y = bit b in
+    let z = bit c in
+    let n = flags a b c in
+    (le-ltb 7 n (omega arith), told a (n % 2) (omega arith), told b (n / 2 % 2) (omega arith), told c (n / 4 % 2) (omega arith))
 
 -- what a restart puts before the state
 pub sized-headed : (block : List ℕ) (s : Setup) (read-client append-client : Bool)

@@ -12,6 +12,7 @@ use Rattle.engine_state.specs.Answer.{Report, no-report, append-done, sync-done
 use Rattle.engine_state.specs.Log.{Setup, State, Idle, Read, Seek, Append, Sync, Erase, stateNumber, Log, logOf}
 use Rattle.engine_call.specs.Outcome.{Outcome, Word, ok, busy, fail}
 use Rattle.engine_state.specs.declared.state.Geometry as geometry
+use Rattle.punelovash_block.specs.declared.numbers.ReportNumbers as numbers
 use Rattle.punelovash_block.specs.declared.block.Loaded as code
 use Rattle.punelovash_block.specs.declared.block.Loaded.the-variants as c
 
@@ -146,6 +147,10 @@ reportNumbers (sync-done r) = inNumbers 2 false r 0
 reportNumbers (erase-done r) = inNumbers 3 false r 0
 reportNumbers (read-done n r) = inNumbers 4 false r n
 reportNumbers (seek-done r) = inNumbers 5 false r 0
+
+-- what the code's numbers say
+abbrev pub numbersOf : numbers.ReportNumbers → ReportNumbers
+numbersOf r = inNumbers (r .kind) (r .lost) (r .result) (r .length)
 
 -- a request in numbers: its kind and its flash page
 abbrev pub requestKind : Request → ℕ

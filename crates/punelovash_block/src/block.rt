@@ -1,30 +1,26 @@
 // The block that a caller lends: 32 + 3 × width bytes with the log and what the last call gave.
 ghost use mathlib.Core.Path.{_≡_};
-ghost use mathlib.Core.Bool.{true};
+ghost use mathlib.Core.Bool.{Bool, true};
 ghost use mathlib.Core.List.{List, [], _∷_};
 ghost use Prim.Native.Nat.{ℕ, _+_, _*_, _≤_, _<_};
 ghost use lib.ListN.{length, getD};
 ghost use Rattle.page.specs.Sizes.{Width};
 ghost use Rattle.page.specs.Bytes.{overwrite};
-ghost use Rattle.engine_state.specs.Answer.{reportOf, requestOf};
+ghost use Rattle.engine_state.specs.Answer.{requestOf};
 ghost use Rattle.engine_state.specs.Log.{setupOf, logOf};
-ghost use Rattle.engine_call.specs.Outcome.{Lent, Lengths, doneOf};
-ghost use Rattle.punelovash_block.specs.Block.{Words, WordsIn, blockRest, blockSize, flagsAt, setupAt, logAt, loadedOf, loaded, reportNumbers, withLog};
-ghost use Rattle.punelovash_block.specs.Block.{withReport, withRequest, sized};
+ghost use Rattle.engine_call.specs.Outcome.{Lent, doneOf};
+ghost use Rattle.punelovash_block.specs.Block.{Words, WordsIn, blockRest, blockSize, flagsAt, setupAt, logAt, loadedOf, loaded, numbersOf, withLog};
+ghost use Rattle.punelovash_block.specs.Block.{withReport, withRequest, flags, sized};
 ghost use Rattle.punelovash_block.specs.Call.{blockDone, misfit, noLog, ran, shapeRefused, LoadsLent, AsIfLent};
 use crate::numbers;
+use crate::numbers::ReportNumbers;
 use crate::numbers::flag;
-use crate::numbers::report_kind;
-use crate::numbers::report_length;
-use crate::numbers::report_lost;
-use crate::numbers::report_result;
 use crate::numbers::request_kind;
 use crate::numbers::request_page;
 use engine_call::outcome;
 use engine_call::outcome::Outcome;
 use engine_state::answer;
 use engine_state::answer::Answer;
-use engine_state::answer::Report;
 use engine_state::answer::Request;
 use engine_state::fits;
 use engine_state::state;
@@ -191,22 +187,15 @@ pub(crate) fn load_lent(
     }
 }
 
-// The answer to a block that holds no log: SHAPE where its sizes don't fit.
-pub(crate) fn no_log(
-    width: usize,
-    block: &[u8],
-    volume_len: usize,
-    page_len: usize,
-    hold_len: usize,
-) -> u32
+// The answer to a block that holds no log, of a call that is lent nothing but the block: SHAPE where its sizes don't fit.
+pub(crate) fn no_log(width: usize, block: &[u8]) -> u32
     requires { ⌜ Width width ⌝ }
-    ensures { λ r. ⌜ ((x : Lent) → Lengths x «volume_len» «page_len» «hold_len» → r ≡ noLog width (now (block .entry)) x) ⌝ }
+    ensures { λ r. ⌜ ((x : Lent) → AsIfLent (setupAt width (now (block .entry))) x → r ≡ noLog width (now (block .entry)) x) ⌝ }
 {
     if block.len() != block_size(width) {
         return STATE;
     }
-    let geometry = sizes_at(block);
-    if fits::shape_fits(width, geometry, volume_len, page_len, hold_len) {
+    if fits::sizes_fit(width, sizes_at(block)) {
         return STATE;
     }
     SHAPE
@@ -228,18 +217,6 @@ pub(crate) fn as_if_lent(geometry: Geometry) -> LentSizes
     }
 }
 
-// The same answer to a call that is lent nothing but the block.
-pub(crate) fn no_log_alone(width: usize, block: &[u8]) -> u32
-    requires { ⌜ Width width ⌝ }
-    ensures { λ r. ⌜ ((x : Lent) → AsIfLent (setupAt width (now (block .entry))) x → r ≡ noLog width (now (block .entry)) x) ⌝ }
-{
-    if block.len() != block_size(width) {
-        return STATE;
-    }
-    let lent = as_if_lent(sizes_at(block));
-    no_log(width, block, lent.volume, lent.page, lent.page)
-}
-
 fn save_log(width: usize, log: Log, block: &mut [u8])
     requires { ⌜ Width width × (length (now block) ≡ blockSize width) ⌝ }
     ensures { λ r. ⌜ now (block .exit) ≡ withLog width (logOf width log) (now (block .entry)) ⌝ }
@@ -252,14 +229,14 @@ fn save_log(width: usize, log: Log, block: &mut [u8])
     word::write_word(4, block, past_ids(width, KEPT_AT), log.length);
 }
 
-fn save_report(width: usize, report: Report, block: &mut [u8])
+fn save_report(width: usize, report: ReportNumbers, block: &mut [u8])
     requires { ⌜ Width width × (length (now block) ≡ blockSize width) ⌝ }
-    ensures { λ r. ⌜ now (block .exit) ≡ withReport width (reportNumbers (reportOf report)) (now (block .entry)) ⌝ }
+    ensures { λ r. ⌜ now (block .exit) ≡ withReport width (numbersOf report) (now (block .entry)) ⌝ }
 {
-    put_byte(block, past_ids(width, REPORT_AT), report_kind(report));
-    put_byte(block, past_ids(width, LOST_AT), flag(report_lost(report)));
-    put_byte(block, past_ids(width, RESULT_AT), report_result(report));
-    word::write_word(4, block, past_ids(width, LENGTH_AT), report_length(report));
+    put_byte(block, past_ids(width, REPORT_AT), report.kind);
+    put_byte(block, past_ids(width, LOST_AT), flag(report.lost));
+    put_byte(block, past_ids(width, RESULT_AT), report.result);
+    word::write_word(4, block, past_ids(width, LENGTH_AT), report.length);
 }
 
 fn save_request(width: usize, request: Request, block: &mut [u8])
@@ -280,7 +257,7 @@ pub(crate) fn save(width: usize, given: Outcome, block: &mut [u8]) -> u32
     let report = given.report;
     let request = given.request;
     save_log(width, log, block);
-    save_report(width, report, block);
+    save_report(width, numbers::report_numbers(report), block);
     save_request(width, request, block);
     answer::answer_number(answer) as u32
 }
@@ -297,23 +274,14 @@ pub(crate) fn refuse_shape(width: usize, block: &mut [u8]) -> u32
     }
 }
 
-// The block takes a log's sizes, mode and client flags.
-pub(crate) fn save_sizes(
-    geometry: Geometry,
-    circular: bool,
-    read_client: bool,
-    append_client: bool,
-    block: &mut [u8],
-)
+// The block takes a log's sizes and flags.
+pub(crate) fn save_sizes(geometry: Geometry, mark: u8, block: &mut [u8])
     requires { ⌜ flagsAt < length (now block) ⌝ }
-    ensures { λ r. ⌜ ((w : ℕ) → now (block .exit) ≡ sized (setupOf w geometry circular) «read_client» «append_client» (now (block .entry))) ⌝ }
+    ensures { λ r. ⌜ ((w : ℕ) (circular read-client append-client : Bool) → mark ≡ flags circular read-client append-client
+        → now (block .exit) ≡ sized (setupOf w geometry circular) read-client append-client (now (block .entry))) ⌝ }
 {
     word::write_word(4, block, PAGE_SIZE_AT, geometry.page_size);
     word::write_word(4, block, PAGE_COUNT_AT, geometry.page_count);
     word::write_word(4, block, FIRST_PAGE_AT, geometry.first_page);
-    put_byte(
-        block,
-        FLAGS_AT,
-        flag(circular) + 2 * flag(read_client) + 4 * flag(append_client),
-    );
+    put_byte(block, FLAGS_AT, mark);
 }

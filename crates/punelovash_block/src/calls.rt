@@ -78,7 +78,7 @@ pub fn seek(width: usize, block: &mut [u8], entry_id: usize) -> u32
         → blockDone r (now (block .exit)) (x .page) (x .hold) ≡ callBlock width (now (block .entry)) x (c.seek «entry_id»)) ⌝ }
 {
     match block::load(width, block) {
-        Loaded::Bad => block::no_log_alone(width, block),
+        Loaded::Bad => block::no_log(width, block),
         Loaded::Log(log) => {
             let geometry = log.geometry;
             let lent = block::as_if_lent(geometry);
@@ -120,7 +120,7 @@ pub fn erase(width: usize, block: &mut [u8], word: u8) -> u32
         → blockDone r (now (block .exit)) (x .page) (x .hold) ≡ callBlock width (now (block .entry)) x (c.erase (wordFrom word))) ⌝ }
 {
     match block::load(width, block) {
-        Loaded::Bad => block::no_log_alone(width, block),
+        Loaded::Bad => block::no_log(width, block),
         Loaded::Log(log) => {
             let said = numbers::word_from(word);
             let geometry = log.geometry;
@@ -189,7 +189,7 @@ pub fn deferred_call(width: usize, block: &mut [u8]) -> u32
         → blockDone r (now (block .exit)) (x .page) (x .hold) ≡ callBlock width (now (block .entry)) x c.deferred) ⌝ }
 {
     match block::load(width, block) {
-        Loaded::Bad => block::no_log_alone(width, block),
+        Loaded::Bad => block::no_log(width, block),
         Loaded::Log(log) => {
             let geometry = log.geometry;
             let lent = block::as_if_lent(geometry);

@@ -8,13 +8,13 @@ use engine_state::get;
 use engine_state::get::Capacity;
 
 // The IDs of the log in a block.
-struct LogIds {
-    oldest: usize,
-    append: usize,
-    read: usize,
+pub struct LogIds {
+    pub oldest: usize,
+    pub append: usize,
+    pub read: usize,
 }
 
-fn ids(width: usize, block: &[u8]) -> LogIds
+pub fn ids(width: usize, block: &[u8]) -> LogIds
     requires { ⌜ Width width ⌝ }
     ensures { λ r. ⌜ (r .oldest ≡ oldestOf width (now (block .entry)))
         × (r .append ≡ appendOf width (now (block .entry)))
@@ -32,30 +32,6 @@ fn ids(width: usize, block: &[u8]) -> LogIds
             read: get::next_read_entry_id(log).0,
         },
     }
-}
-
-// The ID of the oldest entry.
-pub fn log_start(width: usize, block: &[u8]) -> usize
-    requires { ⌜ Width width ⌝ }
-    ensures { λ r. ⌜ r ≡ oldestOf width (now (block .entry)) ⌝ }
-{
-    ids(width, block).oldest
-}
-
-// The append ID: that of the next entry, where it fits in the page.
-pub fn log_end(width: usize, block: &[u8]) -> usize
-    requires { ⌜ Width width ⌝ }
-    ensures { λ r. ⌜ r ≡ appendOf width (now (block .entry)) ⌝ }
-{
-    ids(width, block).append
-}
-
-// The ID of the next entry to read.
-pub fn next_read_entry_id(width: usize, block: &[u8]) -> usize
-    requires { ⌜ Width width ⌝ }
-    ensures { λ r. ⌜ r ≡ readOf width (now (block .entry)) ⌝ }
-{
-    ids(width, block).read
 }
 
 // The bytes of the volume without its page headers; 0 for sizes that SHAPE refuses.

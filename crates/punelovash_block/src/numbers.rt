@@ -5,9 +5,8 @@ ghost use Rattle.page.specs.Pick.{pick};
 ghost use Rattle.engine_state.specs.Answer.{reportOf, requestOf};
 ghost use Rattle.engine_state.specs.Log.{stateOf};
 ghost use Rattle.engine_call.specs.Outcome.{wordOf};
-ghost use Rattle.punelovash_block.specs.Block.{stateFrom, reportNumbers, requestKind, requestPage, wordFrom};
+ghost use Rattle.punelovash_block.specs.Block.{stateFrom, flags, inNumbers, reportNumbers, numbersOf, requestKind, requestPage, wordFrom};
 use engine_call::outcome::Driver;
-use engine_state::answer;
 use engine_state::answer::Report;
 use engine_state::answer::Request;
 use engine_state::state::State;
@@ -31,55 +30,41 @@ pub(crate) fn flag(set: bool) -> u8
     if set { 1 } else { 0 }
 }
 
-pub(crate) fn report_kind(report: Report) -> u8
-    ensures { λ r. ⌜ r ≡ reportNumbers (reportOf report) .kind ⌝ }
+pub(crate) fn flags(circular: bool, read_client: bool, append_client: bool) -> u8
+    ensures { λ r. ⌜ r ≡ flags circular «read_client» «append_client» ⌝ }
 {
-    match report {
-        Report::Nothing => 0,
-        Report::AppendDone(length, lost, result) => 1,
-        Report::SyncDone(result) => 2,
-        Report::EraseDone(result) => 3,
-        Report::ReadDone(length) => 4,
-        Report::SeekDone => 5,
+    flag(circular) + 2 * flag(read_client) + 4 * flag(append_client)
+}
+
+// A report in numbers: its kind, whether entries were lost, its result and its length.
+pub(crate) struct ReportNumbers {
+    pub kind: u8,
+    pub lost: bool,
+    pub result: u8,
+    pub length: usize,
+}
+
+fn in_numbers(kind: u8, lost: bool, result: u8, length: usize) -> ReportNumbers
+    ensures { λ r. ⌜ numbersOf r ≡ inNumbers kind lost result length ⌝ }
+{
+    ReportNumbers {
+        kind,
+        lost,
+        result,
+        length,
     }
 }
 
-pub(crate) fn report_lost(report: Report) -> bool
-    ensures { λ r. ⌜ r ≡ reportNumbers (reportOf report) .lost ⌝ }
+pub(crate) fn report_numbers(report: Report) -> ReportNumbers
+    ensures { λ r. ⌜ numbersOf r ≡ reportNumbers (reportOf report) ⌝ }
 {
     match report {
-        Report::AppendDone(length, lost, result) => lost,
-        Report::Nothing => false,
-        Report::SyncDone(result) => false,
-        Report::EraseDone(result) => false,
-        Report::ReadDone(length) => false,
-        Report::SeekDone => false,
-    }
-}
-
-pub(crate) fn report_result(report: Report) -> u8
-    ensures { λ r. ⌜ r ≡ reportNumbers (reportOf report) .result ⌝ }
-{
-    match report {
-        Report::Nothing => 0,
-        Report::AppendDone(length, lost, result) => answer::append_number(result),
-        Report::SyncDone(result) => answer::sync_number(result),
-        Report::EraseDone(result) => answer::erase_number(result),
-        Report::ReadDone(length) => 0,
-        Report::SeekDone => 0,
-    }
-}
-
-pub(crate) fn report_length(report: Report) -> usize
-    ensures { λ r. ⌜ r ≡ reportNumbers (reportOf report) .length ⌝ }
-{
-    match report {
-        Report::AppendDone(length, lost, result) => length,
-        Report::ReadDone(length) => length,
-        Report::Nothing => 0,
-        Report::SyncDone(result) => 0,
-        Report::EraseDone(result) => 0,
-        Report::SeekDone => 0,
+        Report::Nothing => in_numbers(0, false, 0, 0),
+        Report::AppendDone(length, lost, result) => in_numbers(1, lost, result, length),
+        Report::SyncDone(result) => in_numbers(2, false, result, 0),
+        Report::EraseDone(result) => in_numbers(3, false, result, 0),
+        Report::ReadDone(length) => in_numbers(4, false, 0, length),
+        Report::SeekDone => in_numbers(5, false, 0, 0),
     }
 }
 

@@ -5,6 +5,7 @@ ghost use Rattle.engine_call.specs.Outcome.{lend};
 ghost use Rattle.punelovash_block.specs.Block.{isSet, setupFrom};
 ghost use Rattle.punelovash_block.specs.Call.{blockDone, restartBlock};
 use crate::block;
+use crate::numbers;
 use engine_call::outcome;
 use engine_restart::restart;
 use engine_restart::restart::Restarted;
@@ -44,7 +45,7 @@ pub fn restart(
     match restart::restart(width, geometry, circles, reads, appends, volume, page, hold) {
         Restarted::Shape => block::SHAPE,
         Restarted::Log(log) => {
-            block::save_sizes(geometry, circles, reads, appends, block);
+            block::save_sizes(geometry, numbers::flags(circles, reads, appends), block);
             block::save(width, outcome::still(log, Answer::OK), block)
         }
     }

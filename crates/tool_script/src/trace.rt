@@ -2,7 +2,6 @@
 use crate::text;
 use engine_call::outcome::Outcome;
 use engine_state::answer;
-use engine_state::answer::Appended;
 use engine_state::answer::Report;
 use engine_state::answer::Request;
 use engine_state::state;
@@ -92,11 +91,11 @@ pub fn end(line: &mut [u8], at: usize) {
     io::write_all(STDOUT_FILENO, text::part(line, 0, stop));
 }
 
-fn append_report(line: &mut [u8], at: usize, length: usize, lost: bool, result: Appended) -> usize {
+fn append_report(line: &mut [u8], at: usize, length: usize, lost: bool, result: u8) -> usize {
     let name = field(line, at, b"append_done");
     let size = number(line, name, length);
     let flag = number(line, size, if lost { 1 } else { 0 });
-    number(line, flag, answer::append_number(result) as usize)
+    number(line, flag, result as usize)
 }
 
 // A name out of the list of those that a number follows, and the number.
@@ -110,8 +109,8 @@ fn report(line: &mut [u8], at: usize, report: Report) -> usize {
     match report {
         Report::Nothing => field(line, at, b"-"),
         Report::AppendDone(length, lost, result) => append_report(line, at, length, lost, result),
-        Report::SyncDone(result) => named(line, at, 0, answer::sync_number(result) as usize),
-        Report::EraseDone(result) => named(line, at, 1, answer::erase_number(result) as usize),
+        Report::SyncDone(result) => named(line, at, 0, result as usize),
+        Report::EraseDone(result) => named(line, at, 1, result as usize),
         Report::ReadDone(length) => read_report(line, at, length),
         Report::SeekDone => named(line, at, 3, 0),
     }

@@ -29,7 +29,7 @@ same-length c = search needs
 
 returns : tie.Need-returns
 returns c hold =
-    let k = c .before .before .before .before in
+    let k = c .before .before .before .before .before in
     let s = k .before .before .before in
     c .before .before .end .ensures hold ∙ sym (on (setup s) (world s hold) (event s) (k .if1 .taken))
 

@@ -60,11 +60,11 @@ returns-2 c =
     let on = k .before .before .before .before in
     let s = start on in
     let a = s .args in
-    let over : Step = stepOf (setup s) (end .result) (a .page .now) (a .hold .now) (end .last .1 .1 .1 .1 .0) in
+    let over : Step = stepOf (setup s) (end .result) (a .page .now) (a .hold .now) (end .last .1 .1 .1 .0) in
     let due : ends (completion s) (world s .operation) ≡ true = sym (k .before .before .before .ends .ensures) ∙ k .before .before .if2 .taken in
     let well = leaves .ensures ∙ ap (λ (t : Bool). leftAfter t (leftOf (a .left))) (k .before .ends-well .ensures) in
     powered on
-    (comes-due (setup s) (world s) (completion s) (leftOf (a .left)) (leftOf (leaves .result)) over due well (end .ensures _)
+    (comes-due (setup s) (world s) (completion s) (leftOf (a .left)) (leftOf (leaves .result)) over (not-false _ (on .if1 .left)) due well (end .ensures _)
     (c .before .before .complete .ensures))
 
 returns-3 : tie.Need-returns-3

@@ -1,10 +1,10 @@
 -- `punelovash_block::block::no_log` meets its contract.
-use mathlib.Core.Path.{_≡_, sym, _∙_}
+use mathlib.Core.Path.{_≡_, refl, sym, _∙_}
 use mathlib.Core.Bool.{Bool, true}
 use lib.ListN.{length}
 use lib.Dec.{eqb}
 use borrow.Author.Tests.{eq-eqb, ne-eqb}
-use Rattle.engine_state.specs.Check.{shapeFits}
+use Rattle.engine_state.specs.Check.{sizesFit, shapeFits}
 use Rattle.punelovash_block.specs.Block.{blockSize, setupAt}
 use Rattle.punelovash_block.specs.Call.{misfitBy, noLog}
 use borrow.Author.Needs.{needs}
@@ -15,28 +15,25 @@ use Rattle.punelovash_block.proofs.block.no_log.Tie as tie
 long : (c : tie.Else1) → eqb (length (c .before .before .before .args .block .now)) (blockSize (c .before .before .before .args .width)) ≡ true
 long c = eq-eqb _ _ (c .if1 .left ∙ c .before .block-size .ensures)
 
--- SHAPE by the block's sizes
-abbrev fits : tie.Start → Bool
-fits s = shapeFits (setupAt (s .args .width) (s .args .block .now)) (s .args .volume-len) (s .args .page-len) (s .args .hold-len)
-
-shaped : (c : tie.After-shape-fits) {b : Bool} → let start = c .before .before .before .before .before in
-    c .shape-fits .result ≡ b → fits start ≡ b
-shaped c t =
-    let start = c .before .before .before .before .before in
-    let a = start .args in
-    sym (rw (c .before .sizes-at .ensures .0 (a .width)) at (c .shape-fits .ensures (setupAt (a .width) (a .block .now) .circular))) ∙ t
+-- the block's sizes were looked at
+sized : (c : tie.After-sizes-fit) {b : Bool} → let a = c .before .before .before .before .before .args in
+    c .sizes-fit .result ≡ b → sizesFit (setupAt (a .width) (a .block .now)) ≡ b
+sized c t =
+    let a = c .before .before .before .before .before .args in
+    sym (rw (c .before .sizes-at .ensures .0 (a .width)) at (c .sizes-fit .ensures (setupAt (a .width) (a .block .now) .circular))) ∙ t
 
 returns : tie.Need-returns
 unfolding noLog misfitBy
 returns c x e = rw (ne-eqb _ _ (rw (c .before .block-size .ensures) at (c .if1 .taken)))
 
 returns-2 : tie.Need-returns-2
-unfolding noLog misfitBy
-returns-2 c x e = rw (e .0, e .1, e .2, long (c .before .before .before), shaped (c .before) (c .if2 .taken))
+unfolding noLog misfitBy shapeFits
+returns-2 c x e =
+    rw (long (c .before .before .before), sized (c .before) (c .if2 .taken), eq-eqb _ _ (e .0), eq-eqb _ _ (e .1), eq-eqb _ _ (e .2))
 
 returns-3 : tie.Need-returns-3
-unfolding noLog misfitBy
-returns-3 c x e = rw (e .0, e .1, e .2, long (c .before .before .before), shaped (c .before) (c .if2 .left))
+unfolding noLog misfitBy shapeFits
+returns-3 c x e = rw (long (c .before .before .before), sized (c .before) (c .if2 .left))
 
 pub no-log-spec : {M : Type 1} → statement M
 no-log-spec =

@@ -3,7 +3,7 @@ use mathlib.Core.Path.{_≡_}
 use Rattle.engine_state.specs.Answer.{SHAPE}
 use Rattle.engine_call.specs.Outcome.{still}
 use Rattle.punelovash_block.specs.Call.{noLog}
-use Rattle.punelovash_block.proofs.Blocks.{held-size, no-log-alone, log-runs}
+use Rattle.punelovash_block.proofs.Blocks.{held-size, no-log-runs, log-runs}
 use borrow.Author.Needs.{needs}
 use Rattle.punelovash_block.proofs.block.refuse_shape.Statement.{statement}
 use Rattle.punelovash_block.proofs.block.refuse_shape.Tie as tie
@@ -18,7 +18,7 @@ returns c x m =
     let start = at-load .before .before .before in
     let a = start .args in
     let no : SHAPE ≡ noLog (a .width) (a .block .now) x = rw m in
-    no-log-alone (a .width) (a .block .now) (at-load .load .ensures .0) (λ l. still l x SHAPE) x (c .enum-told .given .1) no
+    no-log-runs (a .width) (a .block .now) (at-load .load .ensures .0) (λ l. still l x SHAPE) x (c .enum-told .given .1) no
 
 returns-2 : tie.Need-returns-2
 returns-2 c x m =

@@ -6,10 +6,9 @@ use Rattle.punelovash_block.proofs.block.save_sizes.Tie as tie
 
 returns : tie.Need-returns
 unfolding sized
-returns c w = cc
+returns c w circular read-client append-client e = cc
 
 pub save-sizes-spec : {M : Type 1} → statement M
 save-sizes-spec =
     tie.close
-    (tie.spec (λ c κs. search needs) (λ c κs. search needs) (λ c κs. search needs) (λ c κs. search needs) (λ c κs. search needs) (λ c. search needs)
-    (λ c. search needs) (λ c κs. search needs) (λ c. search needs) (λ c. search needs) (λ c κs. search needs) (λ c. search needs) returns)
+    (tie.spec (λ c κs. search needs) (λ c κs. search needs) (λ c κs. search needs) (λ c κs. search needs) (λ c. search needs) returns)

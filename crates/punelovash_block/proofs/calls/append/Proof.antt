@@ -12,12 +12,6 @@ save-requires c κs =
     let a = start .args in
     (start .pre, lent-size (a .width) (a .block .now) (a .volume .now) (a .page .now) (a .hold .now) (at-load-lent .load-lent .ensures) (at-log .log .given .1))
 
-returns : tie.Need-returns
-returns c = search bad-runs
-
-returns-2 : tie.Need-returns-2
-returns-2 c = search (misfit-calls, c .before .before .refuse-shape .ensures)
-
 returns-3 : tie.Need-returns-3
 returns-3 c =
     let at-word-from = c .before .before .before .before .before .before .before .before .before .before .before in
@@ -27,5 +21,5 @@ pub append-spec : {M : Type 1} → statement M
 append-spec =
     tie.close
     (tie.spec (λ c κs. search needs) (λ c. search needs) (λ c. search needs) (λ c κs. search needs) (λ c. search needs) (λ c κs. search needs)
-    (λ c κs. search needs) save-requires (λ c. search needs) returns (λ c. search needs) returns-2 (λ c. search needs) (λ c. search needs) (λ c. search needs)
-    returns-3)
+    (λ c κs. search needs) save-requires (λ c. search needs) (λ c. search bad-runs) (λ c. search needs)
+    (λ c. search (misfit-calls, c .before .before .refuse-shape .ensures)) (λ c. search needs) (λ c. search needs) (λ c. search needs) returns-3)

@@ -1,27 +1,16 @@
 -- `punelovash_block::calls::erase` meets its contract.
-use Rattle.punelovash_block.proofs.Blocks.{held-size, held-lent, held-words, no-log-alone, log-runs}
+use Rattle.punelovash_block.proofs.Blocks.{held-size, held-lent, held-words, no-log-runs, log-runs}
 use borrow.Author.Needs.{needs}
 use Rattle.punelovash_block.proofs.calls.erase.Statement.{statement}
 use Rattle.punelovash_block.proofs.calls.erase.Tie as tie
 
-as-if-lent-requires : tie.Need-as-if-lent-requires
-as-if-lent-requires c κs = search held-words
-
-save-requires : tie.Need-save-requires
-save-requires c κs = search (held-size, needs)
-
-returns : tie.Need-returns
-returns c x e = let no = c .no-log-alone .ensures x e in search no-log-alone
-
-returns-2 : tie.Need-returns-2
-returns-2 c x e =
-    let at-erase = c .before .before .before .before in
-    let at-word-from = c .before .before .before .before .before .before .before in
-    let run = at-erase .erase .ensures x (search held-lent) in
-    rw (← (at-word-from .word-from .ensures)) (search log-runs)
-
 pub erase-spec : {M : Type 1} → statement M
 erase-spec =
     tie.close
-    (tie.spec (λ c κs. search needs) (λ c. search needs) (λ c κs. search needs) (λ c. search needs) (λ c κs. search needs) as-if-lent-requires
-    (λ c κs. search needs) save-requires (λ c. search needs) returns (λ c. search needs) returns-2)
+    (tie.spec (λ c κs. search needs) (λ c. search needs) (λ c κs. search needs) (λ c. search needs) (λ c κs. search needs) (λ c κs. search held-words)
+    (λ c κs. search needs) (λ c κs. search (held-size, needs)) (λ c. search needs) (λ c x e. let no = c .no-log .ensures x e in search no-log-runs)
+    (λ c. search needs)
+    (λ c x e. let at-erase = c .before .before .before .before in
+    let at-word-from = at-erase .before .before .before in
+    let run = at-erase .erase .ensures x (search held-lent) in
+    rw (← (at-word-from .word-from .ensures)) (search log-runs)))

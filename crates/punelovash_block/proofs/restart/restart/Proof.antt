@@ -42,9 +42,9 @@ returns c = rw (ne-eqb _ _ (rw (c .before .block-size .ensures) at (c .if1 .take
 save-requires : tie.Need-save-requires
 save-requires c κs =
     let at-save-sizes = c .before .before .before .before in
-    let test = c .before .before .before .before .before .before .before .before .before .before .before .before .before in
+    let test = c .before .before .before .before .before .before .before .before .before .before .before .before .before .before in
     let start = test .before .before .before .before .before .before in
-    (start .pre, at-save-sizes .save-sizes .kept .1 .1 .1 .1 .0 ∙ whole test)
+    (start .pre, at-save-sizes .save-sizes .kept .1 .1 .0 ∙ whole test)
 
 returns-2 : tie.Need-returns-2
 returns-2 c =
@@ -55,16 +55,17 @@ returns-3 : tie.Need-returns-3
 returns-3 c =
     let at-still = c .before .before .before .before in
     let at-save-sizes = c .before .before .before .before .before .before .before in
-    let at-log = at-save-sizes .before .before .before in
-    let called = c .before .before .before .before .before .before .before .before .before .before .before .before .before .before in
+    let at-flags = at-save-sizes .before .before in
+    let at-log = at-flags .before .before in
+    let called = at-log .before .before .before .before in
     let a = called .before .before .before .before .before .before .before .before .args in
     let page = called .restart .last .1 .1 .1 .1 .1 .1 .0 in
     let done = at-still .still .ensures (a .width) (lend (a .volume .now) page (a .hold .now)) in
-    let block = at-save-sizes .save-sizes .ensures (a .width) in
+    let block = at-save-sizes .save-sizes .ensures (a .width) (isSet (a .circular)) (isSet (a .read-client)) (isSet (a .append-client)) (at-flags .flags .ensures) in
     rw (← (restarts called), at-log .log .given .1, ← block) (c .before .before .save .ensures page (a .hold .now) ∙ ap (ran (a .width) _) done)
 
 pub restart-spec : {M : Type 1} → statement M
 restart-spec =
     tie.close
     (tie.spec (λ c κs. search needs) returns (λ c κs. search needs) (λ c. search needs) (λ c. search needs) (λ c κs. search needs)
-    (λ c κs. search needs) save-requires (λ c. search needs) returns-2 (λ c. search needs) (λ c. search needs) returns-3)
+    (λ c κs. search needs) (λ c κs. search needs) save-requires (λ c. search needs) returns-2 (λ c. search needs) (λ c. search needs) returns-3)

@@ -1,7 +1,7 @@
--- `bench_step::world::delivered` meets its contract.
+-- `bench_step::step::delivered` meets its contract.
 use borrow.Author.Needs.{needs}
-use Rattle.bench_step.proofs.world.delivered.Statement.{statement}
-use Rattle.bench_step.proofs.world.delivered.Tie as tie
+use Rattle.bench_step.proofs.step.delivered.Statement.{statement}
+use Rattle.bench_step.proofs.step.delivered.Tie as tie
 
 start-requires : tie.Need-start-requires
 start-requires c κs = search needs
