@@ -1,5 +1,5 @@
 -- `punelovash_block::block::no_log` meets its contract.
-use mathlib.Core.Path.{_≡_, refl, sym, _∙_}
+use mathlib.Core.Path.{_≡_, sym, _∙_}
 use mathlib.Core.Bool.{Bool, true}
 use lib.ListN.{length}
 use lib.Dec.{eqb}

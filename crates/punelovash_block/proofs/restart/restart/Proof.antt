@@ -61,7 +61,8 @@ returns-3 c =
     let a = called .before .before .before .before .before .before .before .before .args in
     let page = called .restart .last .1 .1 .1 .1 .1 .1 .0 in
     let done = at-still .still .ensures (a .width) (lend (a .volume .now) page (a .hold .now)) in
-    let block = at-save-sizes .save-sizes .ensures (a .width) (isSet (a .circular)) (isSet (a .read-client)) (isSet (a .append-client)) (at-flags .flags .ensures) in
+    let mark = at-flags .flags .ensures in
+    let block = at-save-sizes .save-sizes .ensures (a .width) (isSet (a .circular)) (isSet (a .read-client)) (isSet (a .append-client)) mark in
     rw (← (restarts called), at-log .log .given .1, ← block) (c .before .before .save .ensures page (a .hold .now) ∙ ap (ran (a .width) _) done)
 
 pub restart-spec : {M : Type 1} → statement M
