@@ -193,10 +193,13 @@ withRequest w q block = at (flashPageAt w) (wordBytes 4 (requestPage q)) (at (re
 unfoldable pub saved : ℕ → Outcome → List ℕ → List ℕ
 saved w o block = withRequest w (o .request) (withReport w (reportNumbers (o .report)) (withLog w (o .log) block))
 
--- the block's sizes and flags, which only a restart sets
+-- the block's sizes and its byte of flags, which only a restart sets
+abbrev pub withSizes : ℕ → ℕ → ℕ → ℕ → List ℕ → List ℕ
+withSizes p n first flag-byte block =
+    at flagsAt (flag-byte ∷ [])
+    (at firstPageAt (wordBytes 4 first)
+    (at pageCountAt (wordBytes 4 n)
+    (at pageSizeAt (wordBytes 4 p) block)))
+
 unfoldable pub sized : Setup → Bool → Bool → List ℕ → List ℕ
-sized s read-client append-client block =
-    at flagsAt (flags (s .circular) read-client append-client ∷ [])
-    (at firstPageAt (wordBytes 4 (s .first))
-    (at pageCountAt (wordBytes 4 (s .n))
-    (at pageSizeAt (wordBytes 4 (s .p)) block)))
+sized s read-client append-client block = withSizes (s .p) (s .n) (s .first) (flags (s .circular) read-client append-client) block

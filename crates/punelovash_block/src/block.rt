@@ -1,6 +1,6 @@
 // The block that a caller lends: 32 + 3 × width bytes with the log and what the last call gave.
 ghost use mathlib.Core.Path.{_≡_};
-ghost use mathlib.Core.Bool.{Bool, true};
+ghost use mathlib.Core.Bool.{true};
 ghost use mathlib.Core.List.{List, [], _∷_};
 ghost use Prim.Native.Nat.{ℕ, _+_, _*_, _≤_, _<_};
 ghost use lib.ListN.{length, getD};
@@ -10,7 +10,7 @@ ghost use Rattle.engine_state.specs.Answer.{requestOf};
 ghost use Rattle.engine_state.specs.Log.{setupOf, logOf};
 ghost use Rattle.engine_call.specs.Outcome.{Lent, doneOf};
 ghost use Rattle.punelovash_block.specs.Block.{Words, WordsIn, blockRest, blockSize, flagsAt, setupAt, logAt, loadedOf, loaded, numbersOf, withLog};
-ghost use Rattle.punelovash_block.specs.Block.{withReport, withRequest, flags, sized};
+ghost use Rattle.punelovash_block.specs.Block.{withReport, withRequest, withSizes};
 ghost use Rattle.punelovash_block.specs.Call.{blockDone, misfit, noLog, ran, shapeRefused, LoadsLent, AsIfLent};
 use crate::numbers;
 use crate::numbers::ReportNumbers;
@@ -274,14 +274,14 @@ pub(crate) fn refuse_shape(width: usize, block: &mut [u8]) -> u32
     }
 }
 
-// The block takes a log's sizes and flags.
-pub(crate) fn save_sizes(geometry: Geometry, mark: u8, block: &mut [u8])
+// The block takes a log's sizes and its byte of flags.
+pub(crate) fn save_sizes(geometry: Geometry, flag_byte: u8, block: &mut [u8])
     requires { ⌜ flagsAt < length (now block) ⌝ }
-    ensures { λ r. ⌜ ((w : ℕ) (circular read-client append-client : Bool) → mark ≡ flags circular read-client append-client
-        → now (block .exit) ≡ sized (setupOf w geometry circular) read-client append-client (now (block .entry))) ⌝ }
+    ensures { λ r. ⌜ now (block .exit)
+        ≡ withSizes (geometry .«page_size») (geometry .«page_count») (geometry .«first_page») «flag_byte» (now (block .entry)) ⌝ }
 {
     word::write_word(4, block, PAGE_SIZE_AT, geometry.page_size);
     word::write_word(4, block, PAGE_COUNT_AT, geometry.page_count);
     word::write_word(4, block, FIRST_PAGE_AT, geometry.first_page);
-    put_byte(block, FLAGS_AT, mark);
+    put_byte(block, FLAGS_AT, flag_byte);
 }

@@ -16,9 +16,9 @@ long : (c : tie.Else1) → eqb (length (c .before .before .before .args .block .
 long c = eq-eqb _ _ (c .if1 .left ∙ c .before .block-size .ensures)
 
 -- the block's sizes were looked at
-sized : (c : tie.After-sizes-fit) {b : Bool} → let a = c .before .before .before .before .before .args in
+looked-at : (c : tie.After-sizes-fit) {b : Bool} → let a = c .before .before .before .before .before .args in
     c .sizes-fit .result ≡ b → sizesFit (setupAt (a .width) (a .block .now)) ≡ b
-sized c t =
+looked-at c t =
     let a = c .before .before .before .before .before .args in
     sym (rw (c .before .sizes-at .ensures .0 (a .width)) at (c .sizes-fit .ensures (setupAt (a .width) (a .block .now) .circular))) ∙ t
 
@@ -29,11 +29,11 @@ returns c x e = rw (ne-eqb _ _ (rw (c .before .block-size .ensures) at (c .if1 .
 returns-2 : tie.Need-returns-2
 unfolding noLog misfitBy shapeFits
 returns-2 c x e =
-    rw (long (c .before .before .before), sized (c .before) (c .if2 .taken), eq-eqb _ _ (e .0), eq-eqb _ _ (e .1), eq-eqb _ _ (e .2))
+    rw (long (c .before .before .before), looked-at (c .before) (c .if2 .taken), eq-eqb _ _ (e .0), eq-eqb _ _ (e .1), eq-eqb _ _ (e .2))
 
 returns-3 : tie.Need-returns-3
 unfolding noLog misfitBy shapeFits
-returns-3 c x e = rw (long (c .before .before .before), sized (c .before) (c .if2 .left))
+returns-3 c x e = rw (long (c .before .before .before), looked-at (c .before) (c .if2 .left))
 
 pub no-log-spec : {M : Type 1} → statement M
 no-log-spec =

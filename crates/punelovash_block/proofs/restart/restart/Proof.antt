@@ -7,7 +7,7 @@ use borrow.Author.Tests.{eq-eqb, ne-eqb}
 use Rattle.engine_state.specs.Log.{Setup}
 use Rattle.engine_call.specs.Outcome.{Lent, lend}
 use Rattle.engine_restart.specs.Restart.{Restarted, restartAnswer, restart}
-use Rattle.punelovash_block.specs.Block.{blockSize, isSet, setupFrom}
+use Rattle.punelovash_block.specs.Block.{blockSize, isSet, setupFrom, sized}
 use Rattle.punelovash_block.specs.Call.{BlockDone, ran, restartSaved, restartBlock}
 use borrow.Author.Needs.{needs}
 use Rattle.punelovash_block.proofs.restart.restart.Statement.{statement}
@@ -52,6 +52,7 @@ returns-2 c =
     rw (← (restarts at-restart), c .enum-told .given .1)
 
 returns-3 : tie.Need-returns-3
+unfolding sized
 returns-3 c =
     let at-still = c .before .before .before .before in
     let at-save-sizes = c .before .before .before .before .before .before .before in
@@ -61,8 +62,7 @@ returns-3 c =
     let a = called .before .before .before .before .before .before .before .before .args in
     let page = called .restart .last .1 .1 .1 .1 .1 .1 .0 in
     let done = at-still .still .ensures (a .width) (lend (a .volume .now) page (a .hold .now)) in
-    let mark = at-flags .flags .ensures in
-    let block = at-save-sizes .save-sizes .ensures (a .width) (isSet (a .circular)) (isSet (a .read-client)) (isSet (a .append-client)) mark in
+    let block = rw (at-flags .flags .ensures) at (at-save-sizes .save-sizes .ensures) in
     rw (← (restarts called), at-log .log .given .1, ← block) (c .before .before .save .ensures page (a .hold .now) ∙ ap (ran (a .width) _) done)
 
 pub restart-spec : {M : Type 1} → statement M
