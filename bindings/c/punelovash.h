@@ -395,8 +395,9 @@ uint32_t punelovash8_deferred_call(uint8_t *block, size_t block_length);
 
 /*
  * Writes the ID of each page that the volume holds, the page's number times P, once to `ids`, which has room for ids_length
- * of them, and their count to `count`. The order is free; N elements are always enough. It needs no log and no block; sizes
- * are those of punelovash_restart.
+ * of them, and their count to `count`. The IDs rise from element to element; N elements are always enough. It needs no log and
+ * no block; sizes are those of punelovash_restart. On a volume that a log wrote the time grows with N; on any other, headers in
+ * any order, with N * N / 2 at most.
  * Answers OK, SHAPE (sizes, or a volume of another length) or SIZE (more IDs than elements). On OK the elements after the
  * count stay; refused, all of `ids` and the count stay. `ids` and `count` are aligned as their types are.
  */

@@ -74,7 +74,7 @@ fn restart(
 }
 
 // So many pages.
-fn of_pages(width: usize, page_count: usize) -> Geometry {
+pub(crate) fn of_pages(width: usize, page_count: usize) -> Geometry {
     Geometry {
         page_size: sizes::page_size(width),
         page_count,

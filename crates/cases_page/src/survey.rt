@@ -1,5 +1,6 @@
 // Surveys of a volume, and the capacity. `names` has a line for each case.
 use crate::restart::four;
+use crate::restart::of_pages;
 use engine_restart::restart::Restarted;
 use engine_restart::survey::Surveyed;
 use engine_state::get::Capacity;
@@ -24,9 +25,9 @@ fn words(ids: &[u64]) {
 }
 
 // A survey: its answer, the count, and the slice.
-fn survey(width: usize, names: &[u8], k: usize, volume: &[u8], ids: &mut [u64]) {
+fn survey(width: usize, names: &[u8], k: usize, pages: usize, volume: &[u8], ids: &mut [u64]) {
     print::label(names, k);
-    match tool_script::survey::survey(width, four(width), volume, ids) {
+    match tool_script::survey::survey(width, of_pages(width, pages), volume, ids) {
         Surveyed::Shape => print::number(20),
         Surveyed::Size => print::number(7),
         Surveyed::Count(n) => {
@@ -38,13 +39,22 @@ fn survey(width: usize, names: &[u8], k: usize, volume: &[u8], ids: &mut [u64]) 
     print::end();
 }
 
-// A survey of so many bytes, with a slice of n.
-fn of_bytes(width: usize, names: &[u8], k: usize, bytes: &[u8], size: usize, n: usize) {
+// A survey of so many pages in so many bytes, with a slice of n.
+fn of_bytes(
+    width: usize,
+    names: &[u8],
+    k: usize,
+    pages: usize,
+    bytes: &[u8],
+    size: usize,
+    n: usize,
+) {
     let mut ids = [7u64; 4];
     survey(
         width,
         names,
         k,
+        pages,
         text::part(bytes, 0, size),
         text::front_u64(&mut ids, n),
     );
@@ -55,9 +65,9 @@ fn headers(width: usize, names: &[u8], k: usize, a: usize, b: usize, c: usize, d
     let mut volume = [255u8; 256];
     build::slots(width, &mut volume, a, b, c, d);
     let size = sizes::volume_size(width);
-    of_bytes(width, names, k, &volume, size, 4);
-    of_bytes(width, names, 4, &volume, size, 2);
-    of_bytes(width, names, 5, &volume, size, 0);
+    of_bytes(width, names, k, 4, &volume, size, 4);
+    of_bytes(width, names, 4, 4, &volume, size, 2);
+    of_bytes(width, names, 5, 4, &volume, size, 0);
 }
 
 // The same by the pages' numbers, 255 for none.
@@ -73,6 +83,22 @@ fn pages(width: usize, names: &[u8], k: usize, a: u8, b: u8, c: u8, d: u8) {
     );
 }
 
+// Three pages, which is no power of two.
+fn three(width: usize, names: &[u8], k: usize, a: u8, b: u8, c: u8) {
+    let mut volume = [255u8; 256];
+    let none = first_id(width, 255);
+    build::slots(
+        width,
+        &mut volume,
+        first_id(width, a),
+        first_id(width, b),
+        first_id(width, c),
+        none,
+    );
+    let size = less(sizes::volume_size(width), sizes::page_size(width));
+    of_bytes(width, names, k, 3, &volume, size, 4);
+}
+
 // A volume that is too short.
 fn short(width: usize, names: &[u8], k: usize) {
     let volume = [0u8; 256];
@@ -80,6 +106,7 @@ fn short(width: usize, names: &[u8], k: usize) {
         width,
         names,
         k,
+        4,
         &volume,
         less(sizes::volume_size(width), 1),
         4,
@@ -127,6 +154,10 @@ fn surveys(width: usize, names: &[u8]) {
     pages(width, names, 1, 4, 1, 255, 3);
     pages(width, names, 2, 0, 1, 2, 3);
     headers(width, names, 3, c, 0, 0, less(c, sizes::page_size(width)));
+    pages(width, names, 8, 4, 5, 2, 3);
+    pages(width, names, 9, 12, 9, 6, 3);
+    pages(width, names, 10, 0, 4, 2, 3);
+    three(width, names, 11, 9, 4, 2);
     short(width, names, 6);
     capacity(width, names, 7);
 }
@@ -141,6 +172,10 @@ survey of headers C, 0, 0, C - P
   into two
   into none
 survey of L - 1 bytes
-get_size",
+get_size
+survey of headers 4P, 5P, 2P, 3P
+survey of headers 12P, 9P, 6P, 3P
+survey of headers 0, 4P, 2P, 3P
+survey of headers 9P, 4P, 2P in three pages",
     );
 }

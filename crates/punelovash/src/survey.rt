@@ -1,12 +1,13 @@
 // The survey of a volume with 4-byte words.
+ghost use mathlib.Core.Path.{_≡_};
 ghost use mathlib.Core.Bool.{Bool};
 ghost use Rattle.punelovash_block.specs.Block.{setupFrom};
-ghost use Rattle.punelovash_block.specs.Call.{SurveysVolume};
-use engine_restart::survey;
+ghost use Rattle.punelovash_block.specs.Call.{volumeSurveyed, surveyVolume};
 use engine_restart::survey::Surveyed;
+use engine_restart::survey_u32;
 use engine_state::state::Geometry;
 
-// Writes each valid page ID once to `ids`, and their count to `count`.
+// Writes the valid page IDs in rising order to `ids`, and their count to `count`.
 #[no_mangle]
 pub extern "C" fn punelovash_survey(
     page_size: u32,
@@ -16,15 +17,15 @@ pub extern "C" fn punelovash_survey(
     ids: &mut [u32],
     count: &mut usize,
 ) -> u32
-    ensures { λ r. ⌜ ((circular : Bool) → SurveysVolume (setupFrom 4 «page_size» «page_count» «first_page» circular) (now (volume .entry))
-        (now (ids .entry)) (now (ids .exit)) (now (count .entry)) (now (count .exit)) r) ⌝ }
+    ensures { λ r. ⌜ ((circular : Bool) → volumeSurveyed r (now (count .exit)) (now (ids .exit))
+        ≡ surveyVolume (setupFrom 4 «page_size» «page_count» «first_page» circular) (now (volume .entry)) (now (ids .entry)) (now (count .entry))) ⌝ }
 {
     let geometry = Geometry {
         page_size: page_size as usize,
         page_count: page_count as usize,
         first_page: first_page as usize,
     };
-    match survey::survey_u32(geometry, volume, ids) {
+    match survey_u32::survey(geometry, volume, ids) {
         Surveyed::Shape => 20,
         Surveyed::Size => 7,
         Surveyed::Count(n) => {

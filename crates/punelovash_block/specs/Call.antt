@@ -7,14 +7,14 @@ use mathlib.Core.Option.{Option, none, some}
 use lib.ListN.{length}
 use lib.Dec.{eqb}
 use Rattle.page.specs.Pick.{pick}
-use Rattle.page.specs.Answered.{gives, refuses}
-use Rattle.engine_state.specs.Answer.{OK, SIZE, SHAPE, STATE}
+use Rattle.page.specs.Answered.{Answered, gives, refuses}
+use Rattle.engine_state.specs.Answer.{OK, SHAPE, STATE}
 use Rattle.engine_state.specs.Log.{Setup, Log, logOf}
 use Rattle.engine_state.specs.Check.{shapeFits}
 use Rattle.engine_call.specs.Outcome.{Lent, Lengths, Done, answered, still}
 use Rattle.engine_call.specs.Call.{Call, Completion}
 use Rattle.engine_restart.specs.Restart.{Restarted, started, refused, restart}
-use Rattle.engine_restart.specs.Survey.{Surveys}
+use Rattle.engine_restart.specs.Survey.{survey}
 use Rattle.engine_read.specs.Read.{readBuffer}
 use Rattle.engine_laws.specs.Call.{call, complete}
 use Rattle.punelovash_block.specs.Block.{blockSize, setupAt, loaded, saved, sized}
@@ -94,8 +94,19 @@ restartBlock w block s read-client append-client x =
     (restartSaved w block s read-client append-client x (restart s read-client append-client x .page) (restart s read-client append-client x .answer))
     (unchanged STATE block x)
 
--- the survey: the answer's number, and the count where it is OK; else the count stays
-pub data SurveysVolume (s : Setup) (volume ids ids' : List ℕ) (count count' a : ℕ) : Type 0 where
-  counted : a ≡ OK → Surveys s volume ids (gives count') ids' → SurveysVolume s volume ids ids' count count' a
-  too-many : a ≡ SIZE → count' ≡ count → Surveys s volume ids (refuses SIZE) ids' → SurveysVolume s volume ids ids' count count' a
-  misfits : a ≡ SHAPE → count' ≡ count → Surveys s volume ids (refuses SHAPE) ids' → SurveysVolume s volume ids ids' count count' a
+-- what the survey gives at the C interface: the answer's number, the count, and the slice
+pub record VolumeSurveyed : Type 0 where
+  pub answer : ℕ
+  pub count : ℕ
+  pub ids : List ℕ
+
+abbrev pub volumeSurveyed : ℕ → ℕ → List ℕ → VolumeSurveyed
+volumeSurveyed answer count ids = record { answer = answer; count = count; ids = ids }
+
+-- the count is written where the answer is OK; else it stays
+abbrev pub withCount : ℕ → List ℕ → Answered → VolumeSurveyed
+withCount count ids (gives k) = volumeSurveyed OK k ids
+withCount count ids (refuses a) = volumeSurveyed a count ids
+
+abbrev pub surveyVolume : Setup → List ℕ → List ℕ → ℕ → VolumeSurveyed
+surveyVolume s volume ids count = withCount count (survey s volume ids .ids) (survey s volume ids .answer)

@@ -37,7 +37,7 @@ fn widen(words: &[u32], ids: &mut [u64]) {
 // A survey of words of 4 bytes, which stand in `words` meanwhile.
 fn through(geometry: Geometry, volume: &[u8], words: &mut [u32], ids: &mut [u64]) -> Surveyed {
     narrow(ids, words);
-    let answer = engine_restart::survey::survey_u32(geometry, volume, words);
+    let answer = engine_restart::survey_u32::survey(geometry, volume, words);
     widen(words, ids);
     answer
 }
@@ -57,5 +57,5 @@ pub fn survey(width: usize, geometry: Geometry, volume: &[u8], ids: &mut [u64]) 
     if width == 4 {
         return survey_u32(geometry, volume, ids);
     }
-    engine_restart::survey::survey_u64(geometry, volume, ids)
+    engine_restart::survey_u64::survey(geometry, volume, ids)
 }
