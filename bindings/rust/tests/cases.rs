@@ -305,7 +305,6 @@ fn the_survey<W: Word>() {
     let word = |number: u32| W::from(number);
     let mut ids = [word(7); 5];
     assert_eq!(survey(SIZES, &flash.volume, &mut ids), Ok(4));
-    ids[..4].sort();
     assert_eq!(ids, [17 * 32, 18 * 32, 19 * 32, 20 * 32, 7].map(word));
     let mut few = [word(7); 3];
     let refused = survey(SIZES, &flash.volume, &mut few);

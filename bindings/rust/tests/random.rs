@@ -319,14 +319,13 @@ impl<W: Word> Run<W> {
         self.survey();
     }
 
-    /// The survey gives the IDs of the pages on flash.
+    /// The survey gives the IDs of the pages on flash, in rising order.
     fn survey(&mut self) {
         let mut want: Vec<u64> = self.model.page_ids();
         let other = W::from(u32::MAX);
         let mut ids = [other; 9];
         let count = survey(self.sizes, &self.flash.volume, &mut ids).expect("room for each ID");
         assert!(ids[count..].iter().all(|id| *id == other));
-        ids[..count].sort();
         want.sort();
         let found: Vec<u64> = ids[..count].iter().map(|id| (*id).into()).collect();
         assert_eq!(found, want, "the pages on flash");
