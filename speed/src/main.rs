@@ -36,6 +36,7 @@ fn count(name: &str, side: &str) -> bool {
         return false;
     };
     match (side, row.page_size) {
+        ("rust", 32) => count::run::<Original<32>>(&row),
         ("rust", 512) => count::run::<Original<512>>(&row),
         ("rust", 4096) => count::run::<Original<4096>>(&row),
         ("punelovash8", _) => count::run::<Rattle<u64>>(&row),

@@ -10,6 +10,9 @@ use kernel::ErrorCode;
 use std::cell::Cell;
 use std::hint::black_box;
 
+/// The ceiling of IDs for words of 8 bytes; `Log` has none, the survey looks at it.
+const CEILING: usize = 0x7000_0000_0000_0000;
+
 /// A flash page, of fixed size as Tock's are.
 pub struct Page<const P: usize>([u8; P]);
 
@@ -108,6 +111,7 @@ pub struct Original<const P: usize> {
     client: &'static Client,
     page: *mut Page<P>,
     circular: bool,
+    ids: Box<[usize]>,
     volume: Volume,
 }
 
@@ -162,6 +166,7 @@ impl<const P: usize> Side for Original<P> {
             client,
             page,
             circular,
+            ids: vec![0; page_count].into(),
             volume,
         }
     }
@@ -222,6 +227,25 @@ impl<const P: usize> Side for Original<P> {
         self.log.handle_deferred_call();
     }
 
+    /// `Log` has none. This is what one would write: the headers are counted, gathered in the order of the slots, and sorted in place.
+    #[inline(never)]
+    fn survey(&mut self) {
+        // The volume outlives the slice.
+        let bytes = unsafe { self.volume.lend() };
+        let valid = |at: usize| {
+            let word = bytes[at..at + Self::WORD].try_into().expect("a word");
+            let id = usize::from_le_bytes(word);
+            (id < CEILING && id % bytes.len() == at).then_some(id)
+        };
+        let pages = || (0..bytes.len()).step_by(P).filter_map(valid);
+        let count = pages().count();
+        assert!(count > 0 && count <= self.ids.len());
+        for (to, id) in self.ids.iter_mut().zip(pages()) {
+            *to = id;
+        }
+        self.ids[..count].sort_unstable();
+    }
+
     fn page_size(&self) -> usize {
         P
     }
@@ -244,6 +268,10 @@ impl<const P: usize> Side for Original<P> {
         let slot = self.driver.page_number.get() - self.volume.address() / P;
         self.volume.put(slot * P, &page.0);
         self.driver.page.set(Some(page));
+    }
+
+    fn put(&mut self, start: usize, bytes: &[u8]) {
+        self.volume.put(start, bytes);
     }
 
     fn reports(&self) -> usize {

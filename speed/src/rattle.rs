@@ -17,6 +17,7 @@ pub struct Rattle<W: Word> {
     page: Box<[u8]>,
     hold: Box<[u8]>,
     buffer: Box<[u8]>,
+    ids: Box<[W]>,
     page_count: u32,
     slot: Option<u32>,
     length: u32,
@@ -36,24 +37,6 @@ impl<W: Word> Rattle<W> {
         let mut bytes = [0; 8];
         bytes[..W::BYTES].copy_from_slice(&self.block.as_ref()[at..][..W::BYTES]);
         usize::from_le_bytes(bytes)
-    }
-
-    /// The survey, into a slice with room for every page.
-    pub fn survey(&mut self, ids: &mut [W]) {
-        let mut count = 0;
-        let answer = unsafe {
-            W::survey(
-                self.page.len() as u32,
-                self.page_count,
-                0,
-                self.lent.as_ptr(),
-                self.lent.len(),
-                ids.as_mut_ptr().cast(),
-                ids.len(),
-                &mut count,
-            )
-        };
-        assert!(answer == 0 && count > 0);
     }
 
     /// One of the getters; its number is above 0.
@@ -101,6 +84,7 @@ impl<W: Word> Side for Rattle<W> {
             page: vec![0; page_size].into(),
             hold: vec![0; page_size].into(),
             buffer: vec![0x55; page_size].into(),
+            ids: vec![W::from(0); page_count].into(),
             page_count: page_count as u32,
             slot: None,
             length: 0,
@@ -262,6 +246,24 @@ impl<W: Word> Side for Rattle<W> {
         self.take_report();
     }
 
+    #[inline(always)]
+    fn survey(&mut self) {
+        let mut count = 0;
+        let answer = unsafe {
+            W::survey(
+                self.page.len() as u32,
+                self.page_count,
+                0,
+                self.lent.as_ptr(),
+                self.lent.len(),
+                self.ids.as_mut_ptr().cast(),
+                self.ids.len(),
+                &mut count,
+            )
+        };
+        assert!(answer == 0 && count > 0);
+    }
+
     fn page_size(&self) -> usize {
         self.page.len()
     }
@@ -282,6 +284,10 @@ impl<W: Word> Side for Rattle<W> {
     fn flash(&mut self) {
         let slot = self.slot.expect("a write is under way") as usize;
         self.volume.put(slot * self.page.len(), &self.page);
+    }
+
+    fn put(&mut self, start: usize, bytes: &[u8]) {
+        self.volume.put(start, bytes);
     }
 
     fn reports(&self) -> usize {

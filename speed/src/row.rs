@@ -1,6 +1,6 @@
 //! The rows of the table: for each, how a log is made ready, and the calls that are measured.
 
-use crate::side::{fill_page, flush, next_page, store, Side};
+use crate::side::{fall, fill_page, flush, next_page, store, Side};
 
 /// Makes calls so many times on each log. A macro, so that they stand in the loop and not in a function of their own.
 macro_rules! repeat {
@@ -38,6 +38,9 @@ pub enum Kind {
     SyncEmpty,
     /// A restart on a full volume.
     Restart,
+    /// A survey of a volume that was gone around one and a half times, and of one whose IDs fall by slot.
+    Survey,
+    SurveyFalling,
 }
 
 pub struct Row {
@@ -104,6 +107,11 @@ pub fn rows() -> Vec<Row> {
             }
         }
     }
+    for kind in [Survey, SurveyFalling] {
+        for page_count in [64, 1024, 4096] {
+            rows.push(row(kind, (32, page_count), 16, 0, 1, 1));
+        }
+    }
     rows.extend([
         row(FlushAppend, (512, 4), 64, 0, MANY, 1),
         row(FlushComplete, (512, 4), 64, 0, MANY, 1),
@@ -146,6 +154,8 @@ impl Row {
                     self.page_count
                 )
             }
+            Kind::Survey => format!("survey, N = {}, wrapped", self.page_count),
+            Kind::SurveyFalling => format!("survey, N = {}, IDs fall by slot", self.page_count),
         }
     }
 
@@ -167,6 +177,11 @@ impl Row {
         )
     }
 
+    /// Whether it is a survey, which `Log` has not.
+    pub fn is_survey(&self) -> bool {
+        matches!(self.kind, Kind::Survey | Kind::SurveyFalling)
+    }
+
     /// How many times the row's calls are made by one `measure`.
     pub fn calls(&self) -> usize {
         self.logs * self.times
@@ -176,7 +191,7 @@ impl Row {
     fn reports(&self) -> usize {
         use Kind::*;
         match self.kind {
-            FlushAppend | ReadAlone | SyncAlone | SyncEmpty | Restart => 0,
+            FlushAppend | ReadAlone | SyncAlone | SyncEmpty | Restart | Survey | SurveyFalling => 0,
             _ => self.calls(),
         }
     }
@@ -193,6 +208,8 @@ impl Row {
         match self.kind {
             SyncEmpty => (),
             Restart => self.fill_volume(log),
+            Survey => (0..self.page_count * 3 / 2).for_each(|_| next_page(log, self.data)),
+            SurveyFalling => fall(log, self.page_count),
             Sync | SyncAlone | SyncComplete => {
                 self.lap(log);
                 if self.left != 0 {
@@ -269,7 +286,7 @@ impl Row {
                     log.sync();
                 }
             }
-            Steady | Seek | SyncEmpty | Restart => (),
+            Steady | Seek | SyncEmpty | Restart | Survey | SurveyFalling => (),
         }
     }
 
@@ -312,6 +329,7 @@ impl Row {
             SyncAlone => repeat!(logs, 1, log => log.sync()),
             SyncEmpty => repeat!(logs, times, log => log.sync()),
             Restart => repeat!(logs, times, log => log.restart()),
+            Survey | SurveyFalling => repeat!(logs, times, log => log.survey()),
         }
     }
 

@@ -25,6 +25,8 @@ pub trait Side {
     fn write_complete(&mut self);
     fn erase_complete(&mut self);
     fn deferred_call(&mut self);
+    /// The IDs of the pages on flash, rising, to a slice with room for every page.
+    fn survey(&mut self);
 
     fn page_size(&self) -> usize;
     fn oldest(&self) -> usize;
@@ -34,6 +36,8 @@ pub trait Side {
     fn writing(&self) -> bool;
     /// The flash writes the page that was asked for.
     fn flash(&mut self);
+    /// Puts bytes on the flash that no call asked for.
+    fn put(&mut self, start: usize, bytes: &[u8]);
     /// How many reports have come that said OK.
     fn reports(&self) -> usize;
 }
@@ -73,4 +77,13 @@ pub fn fill_page<S: Side>(side: &mut S, left: usize) {
 pub fn flush<S: Side>(side: &mut S) {
     side.sync();
     write(side);
+}
+
+/// Every slot holds a page, and each page has a lower ID than the one in the slot before it.
+pub fn fall<S: Side>(side: &mut S, page_count: usize) {
+    for slot in 0..page_count {
+        let page = (page_count - slot) * page_count + slot;
+        let id = page * side.page_size();
+        side.put(slot * side.page_size(), &id.to_le_bytes()[..S::WORD]);
+    }
 }

@@ -97,7 +97,6 @@ fn uses<S: Side>() -> Uses {
 /// The calls of the library that `Log` has not, or reads a cell for.
 fn others<W: Word>() -> Uses {
     let mut side = Rattle::<W>::new(512, 4);
-    let mut ids = [W::from(0); 4];
     next_page(&mut side, 64);
     macro_rules! get {
         ($getter:ident) => {{
@@ -106,7 +105,7 @@ fn others<W: Word>() -> Uses {
         }};
     }
     vec![
-        ("survey", used(|| side.survey(&mut ids))),
+        ("survey", used(|| side.survey())),
         get!(log_start),
         get!(log_end),
         get!(next_read_entry_id),

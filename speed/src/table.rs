@@ -166,6 +166,31 @@ fn print_growth(lines: &[Line]) {
     println!();
 }
 
+/// What one page more costs a survey, in instructions.
+fn print_survey_growth(lines: &[Line]) {
+    print_sides("Growth of the survey, in instructions", "survey");
+    for (kind, what) in [
+        (Kind::Survey, "wrapped"),
+        (Kind::SurveyFalling, "IDs fall by slot"),
+    ] {
+        let found = |n| {
+            let is_it = |line: &&Line| line.row.kind == kind && line.row.page_count == n;
+            lines.iter().find(is_it).and_then(|line| line.instructions)
+        };
+        for (n, more) in [(64, 1024), (1024, 4096)] {
+            if let (Some(from), Some(to)) = (found(n), found(more)) {
+                let growth = |side| short((to[side] - from[side]) / (more - n) as f64);
+                let columns: Vec<String> = (0..SIDES.len()).map(growth).collect();
+                print_line(
+                    &format!("a page more, N from {n} to {more}, {what}"),
+                    &columns,
+                );
+            }
+        }
+    }
+    println!();
+}
+
 fn print_stack() {
     print_sides("Stack, in bytes", "call");
     for stack::Use { call, sides } in stack::table() {
@@ -178,9 +203,13 @@ fn print_stack() {
 pub fn print(whole: Option<&Path>) {
     let lines = rows().into_iter().map(|row| Line::of(row, whole));
     let lines: Vec<Line> = lines.collect();
-    let (parts, calls): (Vec<&Line>, Vec<&Line>) = lines.iter().partition(|l| l.row.is_part());
+    let (surveys, of_log): (Vec<&Line>, Vec<&Line>) = lines.iter().partition(|l| l.row.is_survey());
+    let (parts, calls): (Vec<&Line>, Vec<&Line>) =
+        of_log.into_iter().partition(|l| l.row.is_part());
     print_lines("Calls", &calls);
     print_lines("Parts of them", &parts);
     print_growth(&lines);
+    print_lines("Survey, beside a sort", &surveys);
+    print_survey_growth(&lines);
     print_stack();
 }

@@ -83,9 +83,10 @@ fn times(row: &Row, mut sides: [Timer; SIDES.len()]) -> Times {
 
 pub fn of(row: &Row) -> Times {
     let rust = match row.page_size {
+        32 => timer::<Original<32>>(row),
         512 => timer::<Original<512>>(row),
         4096 => timer::<Original<4096>>(row),
-        _ => unreachable!("pages have 512 or 4,096 bytes"),
+        _ => unreachable!("pages have 32, 512 or 4,096 bytes"),
     };
     times(
         row,
