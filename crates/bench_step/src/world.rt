@@ -100,7 +100,7 @@ pub fn undelivered(world: World) -> Step
 }
 
 // No operation is under way any more; there is no report and no request.
-pub(crate) fn at_rest_lem(power: bool, log: Log, ended: Ended, answer: Delivery) -> Step
+pub(crate) fn at_rest(power: bool, log: Log, ended: Ended, answer: Delivery) -> Step
     ensures { (g : setups.Setup) (page hold volume : List ℕ) → step_of g result page hold volume
         ≡ record {
           world = record { power = power; log = log_of g.w log; page = page; hold = hold; volume = volume; operation = no_operation };
