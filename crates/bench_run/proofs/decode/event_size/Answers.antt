@@ -28,5 +28,5 @@ returns-then-list-size c =
 pub returns : goal.returns
 returns c =
     let list = c.args.list.now in
-    let fits : 14 + c.read_four.result ≤ length list = c.if-list-size.false in
+    let fits : 14 + c.read_four.result ≤ length list = omega arith in
     rw (is_complete list (omega (arith, size (goal.at.returns c).After-read_four))) (size (goal.at.returns c).After-read_four)
