@@ -4,7 +4,7 @@ use engine_call::outcome::Driver;
 use page::id::EntryID;
 
 // An append and a read have their length.
-#[derive(Drop)]
+#[derive(Clone, Copy)]
 pub enum Call {
     Append(usize, Driver),
     Sync(Driver),
@@ -15,14 +15,14 @@ pub enum Call {
 }
 
 // A completion is good or not; an erase's has the driver's word to the next request.
-#[derive(Drop)]
+#[derive(Clone, Copy)]
 pub enum Completion {
     Write(bool),
     Erase(bool, Driver),
 }
 
 // What a restart brings: what it leaves of an operation under way, its client flags and the length of its page buffer.
-#[derive(Drop)]
+#[derive(Clone, Copy)]
 pub struct Restart {
     pub left: Left,
     pub read_client: bool,
@@ -31,7 +31,7 @@ pub struct Restart {
 }
 
 // A completion and a cut say what the operation left that was under way.
-#[derive(Drop)]
+#[derive(Clone, Copy)]
 pub enum Event {
     Call(Call),
     Complete(Completion, Left),

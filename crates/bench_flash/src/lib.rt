@@ -1,3 +1,5 @@
 // The bench flash, and the events of a list.
+#![tactic(auto)]
+
 pub mod event;
 pub mod operation;

@@ -9,7 +9,7 @@ use engine_state::answer::{FlashPage, Request};
 use page::PAD_BYTE;
 
 // The operation that is under way, and its slot.
-#[derive(Drop)]
+#[derive(Clone, Copy)]
 pub enum Operation {
     Nothing,
     Write(usize),
@@ -17,7 +17,7 @@ pub enum Operation {
 }
 
 // What an operation leaves in its slot: the old page, 0xFF everywhere, or the new page, which of an erase is 0xFF everywhere.
-#[derive(Drop)]
+#[derive(Clone, Copy)]
 pub enum Left {
     Old,
     Blank,

@@ -11,7 +11,7 @@ use engine_state::state::Log;
 use page::word;
 
 // What a read gives: the log after it and the entry's length; an answer that isn't OK; or nothing, for want of room.
-#[derive(Drop)]
+#[derive(Clone, Copy)]
 pub enum Next {
     Entry(Log, usize),
     End(Answer),
@@ -19,7 +19,7 @@ pub enum Next {
 }
 
 // How many entries were read, how many bytes they take up with their lengths, and whether reading ended by FAIL.
-#[derive(Drop)]
+#[derive(Clone, Copy)]
 pub struct Entries {
     pub count: usize,
     pub used: usize,

@@ -19,7 +19,7 @@ use engine_state::state::Geometry;
 use page::id::EntryID;
 
 // What a further restart found: O and A, how many entries were read, how many bytes they take up with their lengths, and whether they are all.
-#[derive(Drop)]
+#[derive(Clone, Copy)]
 pub struct FoundLog {
     pub oldest: EntryID,
     pub append: EntryID,
@@ -28,7 +28,7 @@ pub struct FoundLog {
     pub whole: bool,
 }
 
-#[derive(Drop)]
+#[derive(Clone, Copy)]
 pub enum Ran {
     Found(FoundLog),
     Shape,

@@ -1,4 +1,6 @@
 // One event of a list, on the bench's world.
+#![tactic(auto)]
+
 pub mod calls;
 pub mod power;
 pub mod step;

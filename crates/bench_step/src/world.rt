@@ -15,14 +15,14 @@ use engine_state::state::{Geometry, Log, State};
 use page::id::EntryID;
 
 // The width of a word, the sizes and the mode.
-#[derive(Drop)]
+#[derive(Clone, Copy)]
 pub struct Setup {
     pub width: usize,
     pub geometry: Geometry,
     pub circular: bool,
 }
 
-#[derive(Drop)]
+#[derive(Clone, Copy)]
 pub struct World {
     pub power: bool,
     pub log: Log,
@@ -31,7 +31,7 @@ pub struct World {
 }
 
 // What an operation that ended has left.
-#[derive(Drop)]
+#[derive(Clone, Copy)]
 pub enum Ended {
     Nothing,
     Wrote(Left),
@@ -39,14 +39,14 @@ pub enum Ended {
 }
 
 // The answer, where a call was delivered.
-#[derive(Drop)]
+#[derive(Clone, Copy)]
 pub enum Delivery {
     Nothing,
     Answer(Answer),
 }
 
 // What is told of an event.
-#[derive(Drop)]
+#[derive(Clone, Copy)]
 pub struct Told {
     pub ended: Ended,
     pub answer: Delivery,
@@ -54,7 +54,7 @@ pub struct Told {
     pub request: Request,
 }
 
-#[derive(Drop)]
+#[derive(Clone, Copy)]
 pub struct Step {
     pub world: World,
     pub told: Told,
@@ -100,7 +100,7 @@ pub fn undelivered(world: World) -> Step
 }
 
 // No operation is under way any more; there is no report and no request.
-pub(crate) fn at_rest_lem(power: bool, log: Log, ended: Ended, answer: Delivery) -> Step
+pub(crate) fn at_rest(power: bool, log: Log, ended: Ended, answer: Delivery) -> Step
     ensures { (g : setups.Setup) (page hold volume : List ℕ) → step_of g result page hold volume
         ≡ record {
           world = record { power = power; log = log_of g.w log; page = page; hold = hold; volume = volume; operation = no_operation };

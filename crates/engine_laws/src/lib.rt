@@ -1,1 +1,3 @@
 // The calls of the log taken together: the theorems about all of them. The functions stand in the crates below.
+#![tactic(auto)]
+

@@ -71,7 +71,7 @@ pub(crate) fn block_size(width: usize) -> usize
 }
 
 // The log in a block, or that it holds none.
-#[derive(Drop)]
+#[derive(Clone, Copy)]
 pub enum Loaded {
     Log(Log),
     Bad,
@@ -139,7 +139,7 @@ pub(crate) fn load(width: usize, block: &[u8]) -> Loaded
 }
 
 // The log in a block that is lent with a volume and two buffers: SHAPE comes first.
-#[derive(Drop)]
+#[derive(Clone, Copy)]
 pub enum LoadedLent {
     Log(Log),
     Misfit,
@@ -194,7 +194,7 @@ pub(crate) fn no_log(width: usize, block: &[u8]) -> u32
 }
 
 // The lengths of what is not lent, by a log's own sizes.
-#[derive(Drop)]
+#[derive(Clone, Copy)]
 pub(crate) struct LentSizes {
     pub volume: usize,
     pub page: usize,

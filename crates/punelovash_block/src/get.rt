@@ -9,7 +9,7 @@ use engine_state::get;
 use engine_state::get::Capacity;
 
 // The IDs of the log in a block.
-#[derive(Drop)]
+#[derive(Clone, Copy)]
 pub struct LogIds {
     pub oldest: usize,
     pub append: usize,

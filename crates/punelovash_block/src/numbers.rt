@@ -36,7 +36,7 @@ pub(crate) fn flags(circular: bool, read_client: bool, append_client: bool) -> u
 }
 
 // A report in numbers: its kind, whether entries were lost, its result and its length.
-#[derive(Drop)]
+#[derive(Clone, Copy)]
 pub(crate) struct ReportNumbers {
     pub kind: u8,
     pub lost: bool,
