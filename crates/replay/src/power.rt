@@ -6,7 +6,7 @@ use tool_script::parse::Fault;
 use tool_script::trace;
 
 // What an operation leaves; an erase leaves no new page.
-#[derive(Drop)]
+#[derive(Clone, Copy)]
 pub(crate) enum Ending {
     Leaves(Left),
     Bad,

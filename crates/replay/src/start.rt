@@ -23,7 +23,7 @@ fn buffer_size(width: usize, page_size: usize) -> usize {
 }
 
 // `circular` or `plain`.
-#[derive(Drop)]
+#[derive(Clone, Copy)]
 enum Mode {
     Circular(bool),
     Bad,
@@ -136,7 +136,7 @@ pub(crate) fn volume(line: &[u8], world: World, volume: &mut [u8]) -> World {
 }
 
 // 0 or 1.
-#[derive(Drop)]
+#[derive(Clone, Copy)]
 enum Flag {
     Set(bool),
     Bad,
@@ -161,7 +161,7 @@ fn lent_one(word: &[u8], buffer: &mut [u8], size: usize) -> Number {
 }
 
 // The lengths of the page and hold buffers that are lent.
-#[derive(Drop)]
+#[derive(Clone, Copy)]
 enum Lent {
     Lengths(usize, usize),
     Bad,
