@@ -17,7 +17,7 @@ use Rattle.page.proofs.Overwrites.{length_overwrite, overwrite_same}
 use Rattle.engine_state.specs.Answer.{OK}
 use Rattle.engine_state.specs.Log.{Setup, Append}
 use Rattle.engine_state.specs.Check.{state_fits}
-use Rattle.engine_call.specs.Outcome.{Done, Word, ok, busy, fail, first_of, ◌orElse◌, unless}
+use Rattle.engine_call.specs.Outcome.{Done, Word, ok, busy, fail, first_of, ◌or_else◌, unless}
 use Rattle.engine_call.specs.Call as calls
 use Rattle.engine_call.specs.Gate.{gate}
 use Rattle.engine_call.proofs.Checks.{or_none, NotOK, not_ok, not_ok_else}

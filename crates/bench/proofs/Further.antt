@@ -17,7 +17,7 @@ use Rattle.engine_state.specs.Answer.{OK, CANCEL, Report, no_report, append_done
 use Rattle.engine_state.specs.Log.{Setup, State, Append, Log, is}
 use Rattle.engine_state.specs.Check.{Sized}
 use Rattle.engine_state.specs.Open.{may_open}
-use Rattle.engine_call.specs.Outcome.{Lent, Done, first_of, ◌orElse◌, unless}
+use Rattle.engine_call.specs.Outcome.{Lent, Done, first_of, ◌or_else◌, unless}
 use Rattle.engine_call.specs.Call.{append_data, Completion, write_ended, ends_well}
 use Rattle.engine_call.specs.Gate.{gate, unless_writing}
 use Rattle.engine_write.specs.Store.{store}

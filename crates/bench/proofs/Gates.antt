@@ -10,7 +10,7 @@ use Rattle.page.specs.Pick.{pick}
 use Rattle.engine_state.specs.Log.{Setup, Log}
 use Rattle.engine_state.specs.Check.{Sized, sizes_fit, shape_fits, state_fits}
 use Rattle.engine_state.proofs.Checks.{fits_width}
-use Rattle.engine_call.specs.Outcome.{Lent, Done, lend, Stop, first_of, ◌orElse◌, still, unless}
+use Rattle.engine_call.specs.Outcome.{Lent, Done, lend, Stop, first_of, ◌or_else◌, still, unless}
 use Rattle.engine_call.specs.Gate.{gate_by, gate, called}
 use Rattle.bench.specs.World.{World}
 use Rattle.bench.specs.Book.{Book}

@@ -7,7 +7,7 @@ use mathlib.Core.Option.{Option, none, some}
 use lib.ListN.{length, take}
 use Rattle.page.specs.Pick.{pick}
 use Rattle.engine_state.specs.Log.{Sync, Log}
-use Rattle.engine_call.specs.Outcome.{Lent, Done, Stop, first_of, ◌orElse◌, still, unless}
+use Rattle.engine_call.specs.Outcome.{Lent, Done, Stop, first_of, ◌or_else◌, still, unless}
 use Rattle.engine_call.specs.Call.{Call, append, sync, read, seek, deferred, erase, Completion, write_ended, erase_ended}
 use Rattle.engine_call.specs.Gate.{gate, called, unless_free, unless_deferred}
 use Rattle.engine_call.proofs.Checks.{or_none}

@@ -13,7 +13,7 @@ use Rattle.page.proofs.Kit.{both}
 use Rattle.engine_state.specs.Answer.{SHAPE, STATE}
 use Rattle.engine_state.specs.Log.{Idle, Log, is}
 use Rattle.engine_state.specs.Check.{shape_fits, state_fits}
-use Rattle.engine_call.specs.Outcome.{Lent, Done, Stop, stop_if, first_of, ◌orElse◌, still, unless}
+use Rattle.engine_call.specs.Outcome.{Lent, Done, Stop, stop_if, first_of, ◌or_else◌, still, unless}
 use Rattle.engine_call.specs.Gate.{gate_by, called}
 
 -- whether checks refuse with a number, and whether they pass
