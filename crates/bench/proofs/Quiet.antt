@@ -72,6 +72,9 @@ under_rests {g} {page} {hold} {kept} {b} {o} {s} r e = subst (Under g page hold 
     go Idle at_idle = under.idle
     go Read at_read = under.read
     go Seek at_seek = under.seek
+    go Append x = elim x [ ]
+    go Sync x = elim x [ ]
+    go Erase x = elim x [ ]
 
 -- what a quiet call gives and leaves
 abbrev pub quietly : Log → Lent → State → ℕ → ℕ → ℕ → Report → Done

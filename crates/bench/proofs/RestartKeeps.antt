@@ -87,7 +87,7 @@ module _ {g : Setup} {volume : List ℕ} {b : Book} (bk : Books g volume b) wher
 pub record Recovers (g : Setup) (x : World) (b : Book) : Type 0 where
   pub books : Books g x.volume b
   pub running : Running g x b
-  pub at_rest_lem : x.log.state ≡ Idle
+  pub at_rest : x.log.state ≡ Idle
   pub read : x.log.read ≡ x.log.oldest
   pub oldest : x.log.oldest ≡ book_oldest g b
   pub open_is : (m : ℕ) (h : Has g b.slots m) → m ≡ b.open_page.number → h.page.entries ≡ b.open_page.entries
@@ -135,7 +135,7 @@ module _ {g : Setup} (y : World) {b : Book} (bk : Books g y.volume b) (r : Resta
           oldest = record { page = 0; first = omega arith; near = (omega arith, omega arith); live = λ m h. absurd (has_none bk e m h) };
           under = idle;
         };
-        at_rest_lem = refl;
+        at_rest = refl;
         read = refl;
         oldest = rw low;
         open_is = λ m h. absurd (has_none bk e m h);
@@ -214,7 +214,7 @@ module _ {g : Setup} (y : World) {b : Book} (bk : Books g y.volume b) (r : Resta
               oldest = record { page = a; first = ap (λ (i : ℕ). i + g.w) el; near = near a has-least; live = λ m h. inl (has_bottom bk u m h) };
               under = idle;
             };
-            at_rest_lem = refl;
+            at_rest = refl;
             read = refl;
             oldest = rw low (ap (λ (i : ℕ). i + g.w) el);
             open_is = its-entries;

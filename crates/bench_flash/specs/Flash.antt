@@ -28,9 +28,9 @@ requested o (erase_page page) first = erasing (page - first)
 
 -- "A refused start changes nothing.": the operation under way after a call, by its request and the driver's word
 abbrev pub under_way : Operation → Request → Word → ℕ → Operation
-under_way o request ok first = requested o request first
-under_way o request busy first = o
-under_way o request fail first = o
+under_way o asked ok first = requested o asked first
+under_way o _ busy first = o
+under_way o _ fail first = o
 
 -- a volume of so many bytes has a slot s
 abbrev pub slot_fits : ℕ → ℕ → ℕ → Bool

@@ -9,7 +9,7 @@ use Rattle.engine_state.specs.Log.{Setup, Append, Log}
 use Rattle.engine_state.specs.Check.{shape_fits, state_fits}
 use Rattle.engine_state.specs.Open.{may_open}
 use Rattle.engine_call.specs.Outcome.{Lent}
-use Rattle.engine_call.specs.Call.{append, Completion}
+use Rattle.engine_call.specs.Call.{Completion}
 use Rattle.engine_write.specs.Store.{store}
 use Rattle.engine_write.specs.WriteComplete.{opened, opened_in, append_written}
 use Rattle.engine_restart.specs.Restart.{Restarted, started, refused, RestartDone, started_from, headers, restart}

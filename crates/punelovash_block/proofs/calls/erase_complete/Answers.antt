@@ -1,0 +1,17 @@
+-- `punelovash_block::calls::erase_complete` meets its contract.
+use Rattle.punelovash_block.proofs.Misfits.{lent_size, bad_runs, misfit_completes, lent_runs}
+use Rattle.punelovash_block.proofs.calls.erase_complete.Goals as goal
+
+pub save-requires : goal.save-requires
+save-requires c =
+    let a = c.args in
+    (c.requires, lent_size a.width a.block.now a.volume.now a.page.now a.hold.now c.load_lent.ensures c.in-Log.is)
+
+pub returns-in-Bad : goal.returns-in-Bad
+returns-in-Bad c = search bad_runs
+
+pub returns-in-Misfit : goal.returns-in-Misfit
+returns-in-Misfit c = search (misfit_completes, c.refuse_shape.ensures)
+
+pub returns-in-Log : goal.returns-in-Log
+returns-in-Log c = rw (← c.word_from-said.ensures) (search lent_runs)
