@@ -274,6 +274,14 @@ fn lent(
     Ok(())
 }
 
+const BUFFERS: &[u8] = b"buffers of P
+page buffer of P - 1
+page buffer of P + 1
+no page buffer
+hold buffer of P - 1
+hold buffer of P + 1
+no hold buffer";
+
 fn buffers(rt: &impl Print, width: usize, names: &[u8]) -> io::Result<()> {
     let p = sizes::page_size(width);
     lent(rt, width, names, 0, p, p)?;
@@ -284,6 +292,19 @@ fn buffers(rt: &impl Print, width: usize, names: &[u8]) -> io::Result<()> {
     lent(rt, width, names, 5, p, p + 1)?;
     lent(rt, width, names, 6, p, 0)
 }
+
+const FILL: &[u8] = b"append P - 2w
+append P - 2w + 1
+append 0
+append P + 1 of P
+append 5
+then to the end
+then 1
+append while one waits
+the write completes
+the write fails
+the driver is busy
+the driver fails";
 
 fn fill(rt: &impl Print, width: usize, names: &[u8]) -> io::Result<()> {
     let fresh = from_start(width, words(width, 1));
@@ -308,15 +329,8 @@ fn fill(rt: &impl Print, width: usize, names: &[u8]) -> io::Result<()> {
         Driver::OK,
     )?;
     let five = append(rt, width, names, 4, fresh, 5, Driver::OK)?;
-    let full = append(
-        rt,
-        width,
-        names,
-        5,
-        five,
-        less(words(width, 5), 5),
-        Driver::OK,
-    )?;
+    let rest = less(words(width, 5), 5);
+    let full = append(rt, width, names, 5, five, rest, Driver::OK)?;
     let waits = append(rt, width, names, 6, full, 1, Driver::OK)?;
     append(rt, width, names, 7, waits, 1, Driver::OK)?;
     written(rt, width, names, 8, waits, true)?;
@@ -325,6 +339,20 @@ fn fill(rt: &impl Print, width: usize, names: &[u8]) -> io::Result<()> {
     append(rt, width, names, 11, full, 1, Driver::FAIL)?;
     Ok(())
 }
+
+const SYNCS: &[u8] = b"append P - 3w
+P - 3w, then 1
+P - 3w, then 1, written
+fresh sync
+sync at P - w
+sync while syncing
+sync written
+sync failed
+sync refused
+flush of page 4
+sync of a full page
+full page written
+stray write completion";
 
 fn syncs(rt: &impl Print, width: usize, names: &[u8]) -> io::Result<()> {
     let fresh = from_start(width, words(width, 1));
@@ -358,6 +386,13 @@ fn syncs(rt: &impl Print, width: usize, names: &[u8]) -> io::Result<()> {
     Ok(())
 }
 
+const SEEKS: &[u8] = b"seek to A
+seek done
+seek to A + 1
+seek to O - 1
+seek while seeking
+deferred call in idle";
+
 fn seeks(rt: &impl Print, width: usize, names: &[u8]) -> io::Result<()> {
     let a = count(width, 1, 2, 3);
     let log = from_start(width, a);
@@ -369,6 +404,16 @@ fn seeks(rt: &impl Print, width: usize, names: &[u8]) -> io::Result<()> {
     deferred(rt, width, names, 5, log)?;
     Ok(())
 }
+
+const READS: &[u8] = b"read
+read done
+read past the padding
+read done
+read at the end
+read into too little
+read more than the buffer
+R beyond A
+R in the middle of an entry";
 
 fn reads(rt: &impl Print, width: usize, names: &[u8]) -> io::Result<()> {
     let a = count(width, 1, 2, 3);
@@ -401,6 +446,15 @@ fn reads(rt: &impl Print, width: usize, names: &[u8]) -> io::Result<()> {
     Ok(())
 }
 
+const ERASES: &[u8] = b"erase
+page 0 erased
+page 1 erased
+erase failed
+erase interrupted
+erase refused in the middle
+erase refused
+stray erase completion";
+
 fn erases(rt: &impl Print, width: usize, names: &[u8]) -> io::Result<()> {
     let log = from_start(width, count(width, 1, 2, 3));
     let starts = erase(rt, width, names, 0, log, Driver::OK)?;
@@ -415,83 +469,10 @@ fn erases(rt: &impl Print, width: usize, names: &[u8]) -> io::Result<()> {
 }
 
 pub(crate) fn cases(rt: &impl Print, width: usize) -> io::Result<()> {
-    buffers(
-        rt,
-        width,
-        b"buffers of P
-page buffer of P - 1
-page buffer of P + 1
-no page buffer
-hold buffer of P - 1
-hold buffer of P + 1
-no hold buffer",
-    )?;
-    fill(
-        rt,
-        width,
-        b"append P - 2w
-append P - 2w + 1
-append 0
-append P + 1 of P
-append 5
-then to the end
-then 1
-append while one waits
-the write completes
-the write fails
-the driver is busy
-the driver fails",
-    )?;
-    syncs(
-        rt,
-        width,
-        b"append P - 3w
-P - 3w, then 1
-P - 3w, then 1, written
-fresh sync
-sync at P - w
-sync while syncing
-sync written
-sync failed
-sync refused
-flush of page 4
-sync of a full page
-full page written
-stray write completion",
-    )?;
-    seeks(
-        rt,
-        width,
-        b"seek to A
-seek done
-seek to A + 1
-seek to O - 1
-seek while seeking
-deferred call in idle",
-    )?;
-    reads(
-        rt,
-        width,
-        b"read
-read done
-read past the padding
-read done
-read at the end
-read into too little
-read more than the buffer
-R beyond A
-R in the middle of an entry",
-    )?;
-    erases(
-        rt,
-        width,
-        b"erase
-page 0 erased
-page 1 erased
-erase failed
-erase interrupted
-erase refused in the middle
-erase refused
-stray erase completion",
-    )
+    buffers(rt, width, BUFFERS)?;
+    fill(rt, width, FILL)?;
+    syncs(rt, width, SYNCS)?;
+    seeks(rt, width, SEEKS)?;
+    reads(rt, width, READS)?;
+    erases(rt, width, ERASES)
 }

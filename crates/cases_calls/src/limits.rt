@@ -33,6 +33,16 @@ fn append_id(rt: &impl Print, width: usize, names: &[u8], k: usize, a: usize) ->
     ids(rt, width, names, k, words(width, 1), words(width, 1), a)
 }
 
+const APPEND_IDS: &[u8] = b"A = 0
+A at offset 0
+A at offset 1
+A at offset w - 1
+A at offset w
+A at the ceiling
+A above the ceiling
+A above the ceiling, at offset w
+A the largest number";
+
 fn append_ids(rt: &impl Print, width: usize, names: &[u8]) -> io::Result<()> {
     let c = sizes::ceiling(width);
     let above = c + 1;
@@ -74,6 +84,18 @@ fn read_id(rt: &impl Print, width: usize, names: &[u8], k: usize, r: usize) -> i
     )
 }
 
+const OTHER_IDS: &[u8] = b"O = 0
+O at offset w - 1
+O at offset w + 1
+O = A
+O above A
+O above the ceiling
+O the largest number
+R = 0
+R at the ceiling
+R above the ceiling
+R the largest number";
+
 fn other_ids(rt: &impl Print, width: usize, names: &[u8]) -> io::Result<()> {
     let c = sizes::ceiling(width);
     let above = c + 1;
@@ -111,6 +133,19 @@ fn sized(
     Ok(())
 }
 
+const GEOMETRY: &[u8] = b"P = 0
+P of 4 words
+P of 16 words
+P the largest number
+N = 0
+N = 3
+N = 5
+N the largest number
+first page 0
+first page 16777215
+first page 16777216
+first page the largest number";
+
 fn geometry(rt: &impl Print, width: usize, names: &[u8]) -> io::Result<()> {
     let p = sizes::page_size(width);
     sized(rt, width, names, 0, 0, 4, 100)?;
@@ -147,6 +182,14 @@ fn keeping(
     Ok(())
 }
 
+const KEPT: &[u8] = b"P - 2w kept
+P - 2w + 1 kept
+the largest number kept
+append, 0 kept
+append, 1 kept
+append, P - 2w kept
+append, P - 2w + 1 kept";
+
 fn kept(rt: &impl Print, width: usize, names: &[u8]) -> io::Result<()> {
     let most = words(width, 6);
     let more = count(width, 0, 6, 1);
@@ -159,6 +202,14 @@ fn kept(rt: &impl Print, width: usize, names: &[u8]) -> io::Result<()> {
     keeping(rt, width, names, 6, State::Append, more)
 }
 
+const STATES: &[u8] = b"append in Read
+append in Seek
+append in Sync
+append in Erase
+deferred call in Append
+deferred call in Sync
+deferred call in Erase";
+
 fn states(rt: &impl Print, width: usize, names: &[u8]) -> io::Result<()> {
     keeping(rt, width, names, 0, State::Read, 0)?;
     keeping(rt, width, names, 1, State::Seek, 0)?;
@@ -169,6 +220,12 @@ fn states(rt: &impl Print, width: usize, names: &[u8]) -> io::Result<()> {
     calls::deferred(rt, width, names, 6, with_kept(width, State::Erase, 0))?;
     Ok(())
 }
+
+const CLIENTS: &[u8] = b"append, no append client
+seek, no append client
+append, no read client
+seek, no read client
+read, no read client";
 
 fn clients(rt: &impl Print, width: usize, names: &[u8]) -> io::Result<()> {
     let a = count(width, 1, 2, 3);
@@ -183,6 +240,16 @@ fn clients(rt: &impl Print, width: usize, names: &[u8]) -> io::Result<()> {
     calls::read(rt, width, names, 4, log, words(width, 6))?;
     Ok(())
 }
+
+const LENGTHS: &[u8] = b"append the largest word less w
+append one byte more
+append 4294967296
+append the largest number
+read 0
+read the largest word less w
+read the largest number
+seek to 0
+seek to the largest number";
 
 fn lengths(rt: &impl Print, width: usize, names: &[u8]) -> io::Result<()> {
     let largest = sizes::largest_word(width);
@@ -230,6 +297,12 @@ fn plainly(
     Ok(())
 }
 
+const PLAIN: &[u8] = b"plain log at L
+plain log at 3P + w, P - 2w
+plain log at 3P + w, P - 2w - 1
+plain log at 3P, 1
+plain log at the ceiling";
+
 fn plain(rt: &impl Print, width: usize, names: &[u8]) -> io::Result<()> {
     let most = words(width, 6);
     plainly(rt, width, names, 0, count(width, 4, 0, 0), 1)?;
@@ -240,101 +313,12 @@ fn plain(rt: &impl Print, width: usize, names: &[u8]) -> io::Result<()> {
 }
 
 pub(crate) fn cases(rt: &impl Print, width: usize) -> io::Result<()> {
-    append_ids(
-        rt,
-        width,
-        b"A = 0
-A at offset 0
-A at offset 1
-A at offset w - 1
-A at offset w
-A at the ceiling
-A above the ceiling
-A above the ceiling, at offset w
-A the largest number",
-    )?;
-    other_ids(
-        rt,
-        width,
-        b"O = 0
-O at offset w - 1
-O at offset w + 1
-O = A
-O above A
-O above the ceiling
-O the largest number
-R = 0
-R at the ceiling
-R above the ceiling
-R the largest number",
-    )?;
-    geometry(
-        rt,
-        width,
-        b"P = 0
-P of 4 words
-P of 16 words
-P the largest number
-N = 0
-N = 3
-N = 5
-N the largest number
-first page 0
-first page 16777215
-first page 16777216
-first page the largest number",
-    )?;
-    kept(
-        rt,
-        width,
-        b"P - 2w kept
-P - 2w + 1 kept
-the largest number kept
-append, 0 kept
-append, 1 kept
-append, P - 2w kept
-append, P - 2w + 1 kept",
-    )?;
-    states(
-        rt,
-        width,
-        b"append in Read
-append in Seek
-append in Sync
-append in Erase
-deferred call in Append
-deferred call in Sync
-deferred call in Erase",
-    )?;
-    clients(
-        rt,
-        width,
-        b"append, no append client
-seek, no append client
-append, no read client
-seek, no read client
-read, no read client",
-    )?;
-    lengths(
-        rt,
-        width,
-        b"append the largest word less w
-append one byte more
-append 4294967296
-append the largest number
-read 0
-read the largest word less w
-read the largest number
-seek to 0
-seek to the largest number",
-    )?;
-    plain(
-        rt,
-        width,
-        b"plain log at L
-plain log at 3P + w, P - 2w
-plain log at 3P + w, P - 2w - 1
-plain log at 3P, 1
-plain log at the ceiling",
-    )
+    append_ids(rt, width, APPEND_IDS)?;
+    other_ids(rt, width, OTHER_IDS)?;
+    geometry(rt, width, GEOMETRY)?;
+    kept(rt, width, KEPT)?;
+    states(rt, width, STATES)?;
+    clients(rt, width, CLIENTS)?;
+    lengths(rt, width, LENGTHS)?;
+    plain(rt, width, PLAIN)
 }

@@ -223,6 +223,14 @@ fn sized(
     )
 }
 
+const FILL: &[u8] = b"restart on an erased volume
+restart on zeros
+restart, page 0 with P - 3w
+restart, page 0 full
+restart, plain, page 0 full
+restart, N = 1, plain, page 0 full
+restart, N = 1, page 0 full";
+
 fn fill(rt: &impl Print, width: usize, names: &[u8]) -> io::Result<()> {
     uniform(rt, width, names, 0, 255)?;
     uniform(rt, width, names, 1, 0)?;
@@ -232,6 +240,14 @@ fn fill(rt: &impl Print, width: usize, names: &[u8]) -> io::Result<()> {
     alone(rt, width, names, 5, false, words(width, 6))?;
     alone(rt, width, names, 6, true, words(width, 6))
 }
+
+const LAPS: &[u8] = b"restart on a wrapped volume
+restart on a wrapped and full volume
+restart, plain and full
+restart on pages two laps apart
+restart, header just below C, full
+restart, header just below C
+restart, header at C";
 
 fn laps(rt: &impl Print, width: usize, names: &[u8]) -> io::Result<()> {
     let none = sizes::largest_word(width);
@@ -258,6 +274,12 @@ fn laps(rt: &impl Print, width: usize, names: &[u8]) -> io::Result<()> {
     headers(rt, width, names, 6, true, ceiling, p, none, none, 10)
 }
 
+const BROKEN: &[u8] = b"restart, then a zero
+restart, then one byte too long
+restart, then to the end
+restart, then a length that would wrap
+restart, then a length of 256";
+
 fn broken(rt: &impl Print, width: usize, names: &[u8]) -> io::Result<()> {
     damaged(rt, width, names, 0, 0)?;
     damaged(rt, width, names, 1, less(words(width, 5), 2))?;
@@ -265,6 +287,14 @@ fn broken(rt: &impl Print, width: usize, names: &[u8]) -> io::Result<()> {
     damaged(rt, width, names, 3, less(sizes::largest_word(width), 11))?;
     damaged(rt, width, names, 4, 256)
 }
+
+const REFUSED: &[u8] = b"restart, P of 6 words
+restart, P of 2 words
+restart, N = 0
+restart, N = 3 on 4 pages
+restart, twice P and a page buffer of P
+restart, first flash page 16777215
+restart, first flash page 16777216";
 
 fn refused(rt: &impl Print, width: usize, names: &[u8]) -> io::Result<()> {
     let p = sizes::page_size(width);
@@ -278,46 +308,8 @@ fn refused(rt: &impl Print, width: usize, names: &[u8]) -> io::Result<()> {
 }
 
 pub(crate) fn cases(rt: &impl Print, width: usize) -> io::Result<()> {
-    fill(
-        rt,
-        width,
-        b"restart on an erased volume
-restart on zeros
-restart, page 0 with P - 3w
-restart, page 0 full
-restart, plain, page 0 full
-restart, N = 1, plain, page 0 full
-restart, N = 1, page 0 full",
-    )?;
-    laps(
-        rt,
-        width,
-        b"restart on a wrapped volume
-restart on a wrapped and full volume
-restart, plain and full
-restart on pages two laps apart
-restart, header just below C, full
-restart, header just below C
-restart, header at C",
-    )?;
-    broken(
-        rt,
-        width,
-        b"restart, then a zero
-restart, then one byte too long
-restart, then to the end
-restart, then a length that would wrap
-restart, then a length of 256",
-    )?;
-    refused(
-        rt,
-        width,
-        b"restart, P of 6 words
-restart, P of 2 words
-restart, N = 0
-restart, N = 3 on 4 pages
-restart, twice P and a page buffer of P
-restart, first flash page 16777215
-restart, first flash page 16777216",
-    )
+    fill(rt, width, FILL)?;
+    laps(rt, width, LAPS)?;
+    broken(rt, width, BROKEN)?;
+    refused(rt, width, REFUSED)
 }
