@@ -7,8 +7,7 @@ ghost use Rattle.punelovash_block.specs.Call.{block_done, restart_block};
 use punelovash_block::restart;
 
 // Restarts the log on a volume. Flags are 0 or not.
-#[unsafe(no_mangle)]
-pub extern "C" fn punelovash_restart(
+pub fn punelovash_restart(
     block: &mut [u8],
     page_size: u32,
     page_count: u32,

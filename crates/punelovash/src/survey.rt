@@ -8,8 +8,7 @@ use engine_restart::survey_u32;
 use engine_state::state::Geometry;
 
 // Writes the valid page IDs in rising order to `ids`, and their count to `count`.
-#[unsafe(no_mangle)]
-pub extern "C" fn punelovash_survey(
+pub fn punelovash_survey(
     page_size: u32,
     page_count: u32,
     first_page: u32,

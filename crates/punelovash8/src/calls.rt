@@ -9,8 +9,7 @@ ghost use Rattle.punelovash_block.specs.Call.{block_done, call_block, complete_b
 use punelovash_block::calls;
 
 // Appends the first `length` bytes of `data`.
-#[unsafe(no_mangle)]
-pub extern "C" fn punelovash8_append(
+pub fn punelovash8_append(
     block: &mut [u8],
     volume: &[u8],
     page: &mut [u8],
@@ -28,8 +27,7 @@ pub extern "C" fn punelovash8_append(
 
 // Reads the next entry, of at most `length` bytes, into `buffer`. Of the hold buffer a read looks at the length alone, which has to be the page buffer's:
 // the page buffer stands in for it.
-#[unsafe(no_mangle)]
-pub extern "C" fn punelovash8_read<'a>(
+pub fn punelovash8_read<'a>(
     block: &mut [u8],
     volume: &'a [u8],
     page: &'a [u8],
@@ -44,8 +42,7 @@ pub extern "C" fn punelovash8_read<'a>(
 }
 
 // The next entry to read is the one at `entry_id`. Only sizes are looked at, so that nothing but the block is lent.
-#[unsafe(no_mangle)]
-pub extern "C" fn punelovash8_seek(block: &mut [u8], entry_id: usize) -> u32
+pub fn punelovash8_seek(block: &mut [u8], entry_id: usize) -> u32
     ensures { (x : Lent) → AsIfLent (setup_at 8 block.old) x
         → block_done result block.new x.page x.hold ≡ call_block 8 block.old x (c.seek entry_id) }
 {
@@ -53,8 +50,7 @@ pub extern "C" fn punelovash8_seek(block: &mut [u8], entry_id: usize) -> u32
 }
 
 // Writes the page buffer to flash.
-#[unsafe(no_mangle)]
-pub extern "C" fn punelovash8_sync(
+pub fn punelovash8_sync(
     block: &mut [u8],
     volume: &[u8],
     page: &mut [u8],
@@ -68,8 +64,7 @@ pub extern "C" fn punelovash8_sync(
 }
 
 // Erases the log. Only sizes are looked at, so that nothing but the block is lent.
-#[unsafe(no_mangle)]
-pub extern "C" fn punelovash8_erase(block: &mut [u8], word: u8) -> u32
+pub fn punelovash8_erase(block: &mut [u8], word: u8) -> u32
     ensures { (x : Lent) → AsIfLent (setup_at 8 block.old) x
         → block_done result block.new x.page x.hold ≡ call_block 8 block.old x (c.erase (word_from word)) }
 {
@@ -77,8 +72,7 @@ pub extern "C" fn punelovash8_erase(block: &mut [u8], word: u8) -> u32
 }
 
 // The flash has completed a write; `good` is 0 where it failed.
-#[unsafe(no_mangle)]
-pub extern "C" fn punelovash8_write_complete(
+pub fn punelovash8_write_complete(
     block: &mut [u8],
     volume: &[u8],
     page: &mut [u8],
@@ -92,8 +86,7 @@ pub extern "C" fn punelovash8_write_complete(
 }
 
 // The flash has completed an erase; `good` is 0 where it failed.
-#[unsafe(no_mangle)]
-pub extern "C" fn punelovash8_erase_complete(
+pub fn punelovash8_erase_complete(
     block: &mut [u8],
     volume: &[u8],
     page: &mut [u8],
@@ -109,8 +102,7 @@ pub extern "C" fn punelovash8_erase_complete(
 }
 
 // The deferred call, which reports a read or a seek. Only sizes are looked at, so that nothing but the block is lent.
-#[unsafe(no_mangle)]
-pub extern "C" fn punelovash8_deferred_call(block: &mut [u8]) -> u32
+pub fn punelovash8_deferred_call(block: &mut [u8]) -> u32
     ensures { (x : Lent) → AsIfLent (setup_at 8 block.old) x
         → block_done result block.new x.page x.hold ≡ call_block 8 block.old x c.deferred }
 {

@@ -5,32 +5,28 @@ ghost use Rattle.punelovash_block.specs.Get.{oldest_of, append_of, read_of, size
 use punelovash_block::get;
 
 // The ID of the oldest entry.
-#[unsafe(no_mangle)]
-pub extern "C" fn punelovash8_log_start(block: &[u8]) -> usize
+pub fn punelovash8_log_start(block: &[u8]) -> usize
     ensures { result ≡ oldest_of 8 block.now }
 {
     get::ids(8, block).oldest
 }
 
 // The append ID: that of the next entry, where it fits in the page.
-#[unsafe(no_mangle)]
-pub extern "C" fn punelovash8_log_end(block: &[u8]) -> usize
+pub fn punelovash8_log_end(block: &[u8]) -> usize
     ensures { result ≡ append_of 8 block.now }
 {
     get::ids(8, block).append
 }
 
 // The ID of the next entry to read.
-#[unsafe(no_mangle)]
-pub extern "C" fn punelovash8_next_read_entry_id(block: &[u8]) -> usize
+pub fn punelovash8_next_read_entry_id(block: &[u8]) -> usize
     ensures { result ≡ read_of 8 block.now }
 {
     get::ids(8, block).read
 }
 
 // The bytes of the volume without its page headers; 0 for sizes that SHAPE refuses.
-#[unsafe(no_mangle)]
-pub extern "C" fn punelovash8_get_size(block: &[u8]) -> usize
+pub fn punelovash8_get_size(block: &[u8]) -> usize
     ensures { result ≡ size_of 8 block.now }
 {
     get::get_size(8, block)
