@@ -3,79 +3,80 @@ use engine_call::outcome::Outcome;
 use engine_state::answer;
 use engine_state::answer::{Report, Request};
 use engine_state::state::{Log, State};
+use std::io;
 use tool_print::print;
 
 fn flag(b: bool) -> usize {
     if b { 1 } else { 0 }
 }
 
-fn append_done(length: usize, lost: bool, res: u8) {
-    print::word(b"append_done");
-    print::number(length);
-    print::number(flag(lost));
-    print::number(res as usize);
+fn append_done(rt: &impl Print, length: usize, lost: bool, res: u8) -> io::Result<()> {
+    print::word(rt, b"append_done")?;
+    print::number(rt, length)?;
+    print::number(rt, flag(lost))?;
+    print::number(rt, res as usize)
 }
 
-fn done(text: &[u8], res: usize) {
-    print::word(text);
-    print::number(res);
+fn done(rt: &impl Print, text: &[u8], res: usize) -> io::Result<()> {
+    print::word(rt, text)?;
+    print::number(rt, res)
 }
 
-fn read_done(length: usize) {
-    print::word(b"read_done");
-    print::number(length);
-    print::number(0);
+fn read_done(rt: &impl Print, length: usize) -> io::Result<()> {
+    print::word(rt, b"read_done")?;
+    print::number(rt, length)?;
+    print::number(rt, 0)
 }
 
-fn report(r: Report) {
+fn report(rt: &impl Print, r: Report) -> io::Result<()> {
     match r {
-        Report::Nothing => print::word(b"-"),
-        Report::AppendDone(length, lost, result) => append_done(length, lost, result),
-        Report::SyncDone(result) => done(b"sync_done", result as usize),
-        Report::EraseDone(result) => done(b"erase_done", result as usize),
-        Report::ReadDone(length) => read_done(length),
-        Report::SeekDone => done(b"seek_done", 0),
+        Report::Nothing => print::word(rt, b"-"),
+        Report::AppendDone(length, lost, result) => append_done(rt, length, lost, result),
+        Report::SyncDone(result) => done(rt, b"sync_done", result as usize),
+        Report::EraseDone(result) => done(rt, b"erase_done", result as usize),
+        Report::ReadDone(length) => read_done(rt, length),
+        Report::SeekDone => done(rt, b"seek_done", 0),
     }
 }
 
-fn request(r: Request) {
+fn request(rt: &impl Print, r: Request) -> io::Result<()> {
     match r {
-        Request::Nothing => print::word(b"-"),
-        Request::Write(page) => done(b"write", page.0),
-        Request::Erase(page) => done(b"erase", page.0),
+        Request::Nothing => print::word(rt, b"-"),
+        Request::Write(page) => done(rt, b"write", page.0),
+        Request::Erase(page) => done(rt, b"erase", page.0),
     }
 }
 
-fn state(s: State) {
+fn state(rt: &impl Print, s: State) -> io::Result<()> {
     match s {
-        State::Idle => print::word(b"idle"),
-        State::Read => print::word(b"read"),
-        State::Seek => print::word(b"seek"),
-        State::Append => print::word(b"append"),
-        State::Sync => print::word(b"sync"),
-        State::Erase => print::word(b"erase"),
+        State::Idle => print::word(rt, b"idle"),
+        State::Read => print::word(rt, b"read"),
+        State::Seek => print::word(rt, b"seek"),
+        State::Append => print::word(rt, b"append"),
+        State::Sync => print::word(rt, b"sync"),
+        State::Erase => print::word(rt, b"erase"),
     }
 }
 
-fn log(l: Log) {
+fn log(rt: &impl Print, l: Log) -> io::Result<()> {
     let s = l.state;
-    state(s);
-    print::number(l.oldest_entry_id.0);
-    print::number(l.read_entry_id.0);
-    print::number(l.append_entry_id.0);
-    print::number(l.length);
+    state(rt, s)?;
+    print::number(rt, l.oldest_entry_id.0)?;
+    print::number(rt, l.read_entry_id.0)?;
+    print::number(rt, l.append_entry_id.0)?;
+    print::number(rt, l.length)
 }
 
-pub(crate) fn line(names: &[u8], k: usize, o: Outcome) -> Log {
-    print::label(names, k);
+pub(crate) fn line(rt: &impl Print, names: &[u8], k: usize, o: Outcome) -> io::Result<Log> {
+    print::label(rt, names, k)?;
     let answer = o.answer;
-    print::number(answer::answer_number(answer) as usize);
+    print::number(rt, answer::answer_number(answer) as usize)?;
     let r = o.report;
-    report(r);
+    report(rt, r)?;
     let q = o.request;
-    request(q);
+    request(rt, q)?;
     let l = o.log;
-    log(l);
-    print::end();
-    l
+    log(rt, l)?;
+    print::end(rt)?;
+    Ok(l)
 }

@@ -1,5 +1,7 @@
 // Document 01's cases of the page layer, restart and survey, and their neighbours, run at both widths and written out: a line each, held to the file stdout.
 // P is 8 words and N is 4. In the labels w is the width of a word and L the volume's length.
+#![tactic(auto)]
+
 mod header;
 mod held;
 mod id;
@@ -7,19 +9,20 @@ mod restart;
 mod survey;
 mod walk;
 
+use std::io;
 use tool_print::print;
 
-fn cases(width: usize) {
-    print::line(b"w", 0, width);
-    id::cases(width);
-    walk::cases(width);
-    header::cases(width);
-    held::cases(width);
-    restart::cases(width);
-    survey::cases(width);
+fn cases(rt: &impl Print, width: usize) -> io::Result<()> {
+    print::line(rt, b"w", 0, width)?;
+    id::cases(rt, width)?;
+    walk::cases(rt, width)?;
+    header::cases(rt, width)?;
+    held::cases(rt, width)?;
+    restart::cases(rt, width)?;
+    survey::cases(rt, width)
 }
 
-fn main() {
-    cases(4);
-    cases(8);
+fn main(rt: HostRuntime) -> io::Result<()> {
+    cases(&rt, 4)?;
+    cases(&rt, 8)
 }

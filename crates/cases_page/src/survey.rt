@@ -3,6 +3,7 @@ use crate::restart::{four, of_pages};
 use engine_restart::restart::Restarted;
 use engine_restart::survey::Surveyed;
 use engine_state::get::Capacity;
+use std::io;
 use tool_print::build::first_id;
 use tool_print::sizes::less;
 use tool_print::{build, print, sizes};
@@ -12,32 +13,42 @@ fn wide(word: u64) -> usize {
     word as usize
 }
 
-fn words(ids: &[u64]) {
+fn words(rt: &impl Print, ids: &[u64]) -> io::Result<()> {
     let mut i: usize = 0;
     while i < ids.len() {
         let id = ids[i];
-        print::number(wide(id));
+        print::number(rt, wide(id))?;
         i += 1;
     }
+    Ok(())
 }
 
 // A survey: its answer, the count, and the slice.
-fn survey(width: usize, names: &[u8], k: usize, pages: usize, volume: &[u8], ids: &mut [u64]) {
-    print::label(names, k);
+fn survey(
+    rt: &impl Print,
+    width: usize,
+    names: &[u8],
+    k: usize,
+    pages: usize,
+    volume: &[u8],
+    ids: &mut [u64],
+) -> io::Result<()> {
+    print::label(rt, names, k)?;
     match tool_script::survey::survey(width, of_pages(width, pages), volume, ids) {
-        Surveyed::Shape => print::number(20),
-        Surveyed::Size => print::number(7),
+        Surveyed::Shape => print::number(rt, 20)?,
+        Surveyed::Size => print::number(rt, 7)?,
         Surveyed::Count(n) => {
-            print::number(0);
-            print::number(n);
+            print::number(rt, 0)?;
+            print::number(rt, n)?;
         }
     }
-    words(ids);
-    print::end();
+    words(rt, ids)?;
+    print::end(rt)
 }
 
 // A survey of so many pages in so many bytes, with a slice of n.
 fn of_bytes(
+    rt: &impl Print,
     width: usize,
     names: &[u8],
     k: usize,
@@ -45,31 +56,51 @@ fn of_bytes(
     bytes: &[u8],
     size: usize,
     n: usize,
-) {
+) -> io::Result<()> {
     let mut ids = [7u64; 4];
     survey(
+        rt,
         width,
         names,
         k,
         pages,
         text::part(bytes, 0, size),
         text::front_u64(&mut ids, n),
-    );
+    )
 }
 
 // Four headers, in the slots' order, and a slice of 4, of 2 and of none.
-fn headers(width: usize, names: &[u8], k: usize, a: usize, b: usize, c: usize, d: usize) {
+fn headers(
+    rt: &impl Print,
+    width: usize,
+    names: &[u8],
+    k: usize,
+    a: usize,
+    b: usize,
+    c: usize,
+    d: usize,
+) -> io::Result<()> {
     let mut volume = [255u8; 256];
     build::slots(width, &mut volume, a, b, c, d);
     let size = sizes::volume_size(width);
-    of_bytes(width, names, k, 4, &volume, size, 4);
-    of_bytes(width, names, 4, 4, &volume, size, 2);
-    of_bytes(width, names, 5, 4, &volume, size, 0);
+    of_bytes(rt, width, names, k, 4, &volume, size, 4)?;
+    of_bytes(rt, width, names, 4, 4, &volume, size, 2)?;
+    of_bytes(rt, width, names, 5, 4, &volume, size, 0)
 }
 
 // The same by the pages' numbers, 255 for none.
-fn pages(width: usize, names: &[u8], k: usize, a: u8, b: u8, c: u8, d: u8) {
+fn pages(
+    rt: &impl Print,
+    width: usize,
+    names: &[u8],
+    k: usize,
+    a: u8,
+    b: u8,
+    c: u8,
+    d: u8,
+) -> io::Result<()> {
     headers(
+        rt,
         width,
         names,
         k,
@@ -77,11 +108,19 @@ fn pages(width: usize, names: &[u8], k: usize, a: u8, b: u8, c: u8, d: u8) {
         first_id(width, b),
         first_id(width, c),
         first_id(width, d),
-    );
+    )
 }
 
 // Three pages, which is no power of two.
-fn three(width: usize, names: &[u8], k: usize, a: u8, b: u8, c: u8) {
+fn three(
+    rt: &impl Print,
+    width: usize,
+    names: &[u8],
+    k: usize,
+    a: u8,
+    b: u8,
+    c: u8,
+) -> io::Result<()> {
     let mut volume = [255u8; 256];
     let none = first_id(width, 255);
     build::slots(
@@ -93,13 +132,14 @@ fn three(width: usize, names: &[u8], k: usize, a: u8, b: u8, c: u8) {
         none,
     );
     let size = less(sizes::volume_size(width), sizes::page_size(width));
-    of_bytes(width, names, k, 3, &volume, size, 4);
+    of_bytes(rt, width, names, k, 3, &volume, size, 4)
 }
 
 // A volume that is too short.
-fn short(width: usize, names: &[u8], k: usize) {
+fn short(rt: &impl Print, width: usize, names: &[u8], k: usize) -> io::Result<()> {
     let volume = [0u8; 256];
     of_bytes(
+        rt,
         width,
         names,
         k,
@@ -107,11 +147,17 @@ fn short(width: usize, names: &[u8], k: usize) {
         &volume,
         less(sizes::volume_size(width), 1),
         4,
-    );
+    )
 }
 
 // The capacity of a log on an erased volume.
-fn capacity_of(width: usize, volume: &[u8], page: &mut [u8], hold: &[u8]) {
+fn capacity_of(
+    rt: &impl Print,
+    width: usize,
+    volume: &[u8],
+    page: &mut [u8],
+    hold: &[u8],
+) -> io::Result<()> {
     match engine_restart::restart::restart(
         width,
         four(width),
@@ -122,45 +168,56 @@ fn capacity_of(width: usize, volume: &[u8], page: &mut [u8], hold: &[u8]) {
         page,
         hold,
     ) {
-        Restarted::Shape => print::number(20),
+        Restarted::Shape => print::number(rt, 20),
         Restarted::Log(log) => match engine_state::get::get_size(width, log) {
-            Capacity::Bytes(n) => print::number(n),
-            Capacity::Shape => print::number(20),
+            Capacity::Bytes(n) => print::number(rt, n),
+            Capacity::Shape => print::number(rt, 20),
         },
     }
 }
 
-fn capacity(width: usize, names: &[u8], k: usize) {
+fn capacity(rt: &impl Print, width: usize, names: &[u8], k: usize) -> io::Result<()> {
     let volume = [255u8; 256];
     let mut page = [0u8; 64];
     let hold = [0u8; 64];
     let p = sizes::page_size(width);
-    print::label(names, k);
+    print::label(rt, names, k)?;
     capacity_of(
+        rt,
         width,
         text::part(&volume, 0, sizes::volume_size(width)),
         text::front(&mut page, p),
         text::part(&hold, 0, p),
-    );
-    print::end();
+    )?;
+    print::end(rt)
 }
 
-fn surveys(width: usize, names: &[u8]) {
+fn surveys(rt: &impl Print, width: usize, names: &[u8]) -> io::Result<()> {
     let c = sizes::ceiling(width);
-    pages(width, names, 0, 255, 255, 255, 255);
-    pages(width, names, 1, 4, 1, 255, 3);
-    pages(width, names, 2, 0, 1, 2, 3);
-    headers(width, names, 3, c, 0, 0, less(c, sizes::page_size(width)));
-    pages(width, names, 8, 4, 5, 2, 3);
-    pages(width, names, 9, 12, 9, 6, 3);
-    pages(width, names, 10, 0, 4, 2, 3);
-    three(width, names, 11, 9, 4, 2);
-    short(width, names, 6);
-    capacity(width, names, 7);
+    pages(rt, width, names, 0, 255, 255, 255, 255)?;
+    pages(rt, width, names, 1, 4, 1, 255, 3)?;
+    pages(rt, width, names, 2, 0, 1, 2, 3)?;
+    headers(
+        rt,
+        width,
+        names,
+        3,
+        c,
+        0,
+        0,
+        less(c, sizes::page_size(width)),
+    )?;
+    pages(rt, width, names, 8, 4, 5, 2, 3)?;
+    pages(rt, width, names, 9, 12, 9, 6, 3)?;
+    pages(rt, width, names, 10, 0, 4, 2, 3)?;
+    three(rt, width, names, 11, 9, 4, 2)?;
+    short(rt, width, names, 6)?;
+    capacity(rt, width, names, 7)
 }
 
-pub(crate) fn cases(width: usize) {
+pub(crate) fn cases(rt: &impl Print, width: usize) -> io::Result<()> {
     surveys(
+        rt,
         width,
         b"survey of an erased volume
 survey of headers 4P, P, none, 3P
@@ -174,5 +231,5 @@ survey of headers 4P, 5P, 2P, 3P
 survey of headers 12P, 9P, 6P, 3P
 survey of headers 0, 4P, 2P, 3P
 survey of headers 9P, 4P, 2P in three pages",
-    );
+    )
 }

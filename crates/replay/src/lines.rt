@@ -5,6 +5,7 @@ use bench_flash::event::{Call, Completion};
 use bench_flash::operation::Left;
 use bench_step::step;
 use bench_step::world::Step;
+use std::io;
 use tool_script::parse::Line;
 use tool_script::{text, trace};
 
@@ -24,6 +25,7 @@ fn step(
 
 // A call that gets no buffer to fill.
 fn write(
+    rt: &impl Print,
     name: &[u8],
     world: World,
     call: Call,
@@ -32,7 +34,7 @@ fn write(
     hold: &mut [u8],
     bytes: &[u8],
     out: &mut [u8],
-) -> World {
+) -> io::Result<World> {
     let mut none = [0u8; 1];
     let step = step(
         world,
@@ -43,11 +45,12 @@ fn write(
         bytes,
         text::front(&mut none, 0),
     );
-    show::finish(name, world, step, page, hold, out)
+    show::finish(rt, name, world, step, page, hold, out)
 }
 
 // A read's trace ends in the client's buffer.
 fn show_read(
+    rt: &impl Print,
     name: &[u8],
     world: World,
     step: Step,
@@ -55,15 +58,16 @@ fn show_read(
     hold: &[u8],
     buffer: &[u8],
     out: &mut [u8],
-) -> World {
+) -> io::Result<World> {
     let middle = show::call(name, step, page, hold, out);
     let stop = trace::bytes(out, middle, buffer);
-    trace::end(out, stop);
+    trace::end(rt, out, stop)?;
     let next = step.world;
-    world::after(world, next, world.hostile)
+    Ok(world::after(world, next, world.hostile))
 }
 
 fn read(
+    rt: &impl Print,
     name: &[u8],
     world: World,
     call: Call,
@@ -72,7 +76,7 @@ fn read(
     hold: &mut [u8],
     buffer: &mut [u8],
     out: &mut [u8],
-) -> World {
+) -> io::Result<World> {
     let none = [0u8; 1];
     let step = step(
         world,
@@ -83,7 +87,7 @@ fn read(
         text::part(&none, 0, 0),
         buffer,
     );
-    show_read(name, world, step, page, hold, buffer, out)
+    show_read(rt, name, world, step, page, hold, buffer, out)
 }
 
 // Whether a call fills the client's buffer.
@@ -100,6 +104,7 @@ fn fills(call: Call) -> bool {
 
 // A call, on the part of the client's buffer that is lent.
 fn call(
+    rt: &impl Print,
     name: &[u8],
     world: World,
     call: Call,
@@ -109,16 +114,17 @@ fn call(
     hold: &mut [u8],
     client: &mut [u8],
     out: &mut [u8],
-) -> World {
+) -> io::Result<World> {
     if fills(call) {
         let buffer = text::front(client, room);
-        return read(name, world, call, volume, page, hold, buffer, out);
+        return read(rt, name, world, call, volume, page, hold, buffer, out);
     }
     let bytes = text::part(client, 0, room);
-    write(name, world, call, volume, page, hold, bytes, out)
+    write(rt, name, world, call, volume, page, hold, bytes, out)
 }
 
 fn complete(
+    rt: &impl Print,
     name: &[u8],
     world: World,
     completion: Completion,
@@ -127,9 +133,9 @@ fn complete(
     page: &mut [u8],
     hold: &[u8],
     out: &mut [u8],
-) -> World {
+) -> io::Result<World> {
     let step = forced::complete(world, completion, left, volume, page, hold);
-    show::finish(name, world, step, page, hold, out)
+    show::finish(rt, name, world, step, page, hold, out)
 }
 
 // Whether a line is a call that needs the power.
@@ -143,6 +149,7 @@ fn needs_power(line: Line) -> bool {
 }
 
 fn delivered(
+    rt: &impl Print,
     name: &[u8],
     world: World,
     line: Line,
@@ -151,18 +158,21 @@ fn delivered(
     hold: &mut [u8],
     client: &mut [u8],
     out: &mut [u8],
-) -> World {
+) -> io::Result<World> {
     match line {
-        Line::Call(made, room) => call(name, world, made, room, volume, page, hold, client, out),
+        Line::Call(made, room) => call(
+            rt, name, world, made, room, volume, page, hold, client, out,
+        ),
         Line::Complete(completion, left) => {
-            complete(name, world, completion, left, volume, page, hold, out)
+            complete(rt, name, world, completion, left, volume, page, hold, out)
         }
-        Line::Other(other) => other::run(world, other, volume, page, out),
-        Line::Bad(fault) => world::faulty(world, fault),
+        Line::Other(other) => other::run(rt, world, other, volume, page, out),
+        Line::Bad(fault) => Ok(world::faulty(world, fault)),
     }
 }
 
 pub(crate) fn run_line(
+    rt: &impl Print,
     name: &[u8],
     world: World,
     line: Line,
@@ -171,11 +181,11 @@ pub(crate) fn run_line(
     hold: &mut [u8],
     client: &mut [u8],
     out: &mut [u8],
-) -> World {
+) -> io::Result<World> {
     if !world.bench.power {
         if needs_power(line) {
-            return show::not_delivered(name, world, out);
+            return show::not_delivered(rt, name, world, out);
         }
     }
-    delivered(name, world, line, volume, page, hold, client, out)
+    delivered(rt, name, world, line, volume, page, hold, client, out)
 }

@@ -1,4 +1,6 @@
 // Replays a script of calls, read from standard input, and writes the trace.
+#![tactic(auto)]
+
 mod forced;
 mod lines;
 mod other;
@@ -9,9 +11,9 @@ mod world;
 
 ghost use Rattle.std.specs.Prelude.{◌≡◌, length};
 
-use libc::STDIN_FILENO;
+use std::io;
 use tool_script::parse::{Fault, Line};
-use tool_script::{parse, text, trace};
+use tool_script::{input, parse, text, trace};
 use world::{Stage, World};
 
 // The bytes of the longest script.
@@ -19,6 +21,7 @@ const SCRIPT_SIZE: usize = 4194304;
 
 // A line after the first three runs on the parts of the buffers that are in use.
 fn on_parts(
+    rt: &impl Print,
     name: &[u8],
     world: World,
     line: Line,
@@ -27,8 +30,9 @@ fn on_parts(
     hold: &mut [u8],
     client: &mut [u8],
     out: &mut [u8],
-) -> World {
+) -> io::Result<World> {
     lines::run_line(
+        rt,
         name,
         world,
         line,
@@ -41,6 +45,7 @@ fn on_parts(
 }
 
 fn called(
+    rt: &impl Print,
     world: World,
     line: &[u8],
     volume: &mut [u8],
@@ -48,9 +53,10 @@ fn called(
     hold: &mut [u8],
     client: &mut [u8],
     out: &mut [u8],
-) -> World {
+) -> io::Result<World> {
     let parsed = parse::parse_line(line, client);
     on_parts(
+        rt,
         text::word(line, 0),
         world,
         parsed,
@@ -79,6 +85,7 @@ fn due(stage: Stage, line: &[u8]) -> Stage {
 
 // A line of the script, by what is due.
 fn staged(
+    rt: &impl Print,
     world: World,
     line: &[u8],
     volume: &mut [u8],
@@ -86,18 +93,19 @@ fn staged(
     hold: &mut [u8],
     client: &mut [u8],
     out: &mut [u8],
-) -> World {
+) -> io::Result<World> {
     let stage = world.stage;
     match due(stage, line) {
-        Stage::Sizes => start::sizes(line, world),
-        Stage::Volume => start::volume(line, world, volume),
-        Stage::Restart => start::restart(line, world, volume, page, hold, out),
-        Stage::Calls => called(world, line, volume, page, hold, client, out),
+        Stage::Sizes => Ok(start::sizes(line, world)),
+        Stage::Volume => Ok(start::volume(line, world, volume)),
+        Stage::Restart => start::restart(rt, line, world, volume, page, hold, out),
+        Stage::Calls => called(rt, world, line, volume, page, hold, client, out),
     }
 }
 
 // An empty line, and one that begins with `#`, is passed over.
 fn step(
+    rt: &impl Print,
     world: World,
     line: &[u8],
     volume: &mut [u8],
@@ -105,14 +113,14 @@ fn step(
     hold: &mut [u8],
     client: &mut [u8],
     out: &mut [u8],
-) -> World {
+) -> io::Result<World> {
     if line.len() == 0 {
-        return world;
+        return Ok(world);
     }
     if line[0] == b'#' {
-        return world;
+        return Ok(world);
     }
-    staged(world, line, volume, page, hold, client, out)
+    staged(rt, world, line, volume, page, hold, client, out)
 }
 
 // A fault's place in the list of what is wrong; past its end for none.
@@ -131,9 +139,9 @@ fn fault_number(fault: Fault) -> usize {
 }
 
 // Says in words what is wrong with the last line; nothing where it was right.
-fn complain(world: World, number: usize, out: &mut [u8]) {
+fn complain(rt: &impl Print, world: World, number: usize, out: &mut [u8]) -> io::Result<()> {
     if !world::is_faulty(world) {
-        return;
+        return Ok(());
     }
     let fault = world.fault;
     let start = trace::put(out, 0, b"line");
@@ -144,11 +152,12 @@ fn complain(world: World, number: usize, out: &mut [u8]) {
 a number is missing or too large;bytes are missing, too many or not hexadecimal;a word is missing or may not stand there;\
 the volume has more than 65,536 bytes;the script has more than 4 MiB";
     let stop = trace::put(out, colon, text::item(list, b';', fault_number(fault)));
-    trace::end(out, stop);
+    trace::end(rt, out, stop)
 }
 
 // The line from `at` to `stop`. One that goes past 4 MiB is wrong.
 fn next(
+    rt: &impl Print,
     world: World,
     script: &[u8],
     at: usize,
@@ -158,13 +167,14 @@ fn next(
     hold: &mut [u8],
     client: &mut [u8],
     out: &mut [u8],
-) -> World {
+) -> io::Result<World> {
     if SCRIPT_SIZE <= stop {
         if SCRIPT_SIZE < script.len() {
-            return world::faulty(world, Fault::Long);
+            return Ok(world::faulty(world, Fault::Long));
         }
     }
     step(
+        rt,
         world,
         text::part(script, at, stop),
         volume,
@@ -177,26 +187,28 @@ fn next(
 
 // Runs the lines of a script to its end or its first wrong line.
 fn replay(
+    rt: &impl Print,
     script: &[u8],
     volume: &mut [u8],
     page: &mut [u8],
     hold: &mut [u8],
     client: &mut [u8],
     out: &mut [u8],
-) {
+) -> io::Result<()> {
     let mut world = world::empty();
     let mut number: usize = 0;
     let mut at: usize = 0;
     while at < script.len() {
         let stop = text::find(script, at, b'\n');
         number += 1;
-        world = next(world, script, at, stop, volume, page, hold, client, out);
-        complain(world, number, out);
+        world = next(rt, world, script, at, stop, volume, page, hold, client, out)?;
+        complain(rt, world, number, out)?;
         if world::is_faulty(world) {
-            return;
+            return Ok(());
         }
         at = text::after(stop, script.len());
     }
+    Ok(())
 }
 
 // Room for the longest script and one byte more.
@@ -206,20 +218,21 @@ fn script_buffer() -> [u8; 4194305]
     [0; 4194305]
 }
 
-fn main() {
+fn main(rt: HostRuntime) -> io::Result<()> {
     let mut script = script_buffer();
     let mut volume = [0u8; 65536];
     let mut page = [0u8; 8192];
     let mut hold = [0u8; 8192];
     let mut client = [0u8; 8192];
     let mut out = [0u8; 131328];
-    let n = io::read_full(STDIN_FILENO, &mut script);
+    let n = input::read_full(&mut rt.stdin(), &mut script)?;
     replay(
+        &rt,
         text::part(&script, 0, n),
         &mut volume,
         &mut page,
         &mut hold,
         &mut client,
         &mut out,
-    );
+    )
 }

@@ -8,6 +8,7 @@ use engine_state::get;
 use engine_state::get::Capacity;
 use engine_state::state::{Log, State};
 use page::id::EntryID;
+use std::io;
 use tool_script::parse::{Fault, Other};
 use tool_script::{text, trace};
 
@@ -28,30 +29,44 @@ fn survey_count(answer: Surveyed) -> usize {
     }
 }
 
-fn survey_into(width: usize, log: Log, volume: &[u8], ids: &mut [u64], out: &mut [u8]) {
+fn survey_into(
+    rt: &impl Print,
+    width: usize,
+    log: Log,
+    volume: &[u8],
+    ids: &mut [u64],
+    out: &mut [u8],
+) -> io::Result<()> {
     let geometry = log.geometry;
     let answer = tool_script::survey::survey(width, geometry, volume, ids);
     let start = trace::pair(out, b"survey", survey_answer(answer), survey_count(answer));
     let stop = trace::words(out, start, ids);
-    trace::end(out, stop);
+    trace::end(rt, out, stop)
 }
 
-fn survey(world: World, count: usize, volume: &[u8], out: &mut [u8]) -> World {
+fn survey(
+    rt: &impl Print,
+    world: World,
+    count: usize,
+    volume: &[u8],
+    out: &mut [u8],
+) -> io::Result<World> {
     let mut ids = [18446744073709551615u64; 4096];
     survey_into(
+        rt,
         world.setup.width,
         world.bench.log,
         volume,
         text::front_u64(&mut ids, count),
         out,
-    );
-    world
+    )?;
+    Ok(world)
 }
 
-fn getters(world: World, out: &mut [u8]) -> World {
+fn getters(rt: &impl Print, world: World, out: &mut [u8]) -> io::Result<World> {
     let bench = world.bench;
     if !bench.power {
-        return show::not_delivered(b"get", world, out);
+        return show::not_delivered(rt, b"get", world, out);
     }
     let log = bench.log;
     let size = match get::get_size(world.setup.width, log) {
@@ -61,15 +76,15 @@ fn getters(world: World, out: &mut [u8]) -> World {
     let start = trace::pair(out, b"get", get::log_start(log).0, get::log_end(log).0);
     let middle = trace::number(out, start, get::next_read_entry_id(log).0);
     let stop = trace::number(out, middle, size);
-    trace::end(out, stop);
-    world
+    trace::end(rt, out, stop)?;
+    Ok(world)
 }
 
-fn show_volume(world: World, volume: &[u8], out: &mut [u8]) -> World {
+fn show_volume(rt: &impl Print, world: World, volume: &[u8], out: &mut [u8]) -> io::Result<World> {
     let start = trace::put(out, 0, b"volume");
     let stop = trace::bytes(out, start, volume);
-    trace::end(out, stop);
-    world
+    trace::end(rt, out, stop)?;
+    Ok(world)
 }
 
 // Another state in place of the log's.
@@ -103,19 +118,20 @@ fn put(
 }
 
 pub(crate) fn run(
+    rt: &impl Print,
     world: World,
     line: Other,
     volume: &mut [u8],
     page: &[u8],
     out: &mut [u8],
-) -> World {
+) -> io::Result<World> {
     match line {
-        Other::Cut(left) => power::cut(world, left, volume, page, out),
-        Other::Get => getters(world, out),
-        Other::Survey(count) => survey(world, count, volume, out),
-        Other::Volume => show_volume(world, volume, out),
+        Other::Cut(left) => power::cut(rt, world, left, volume, page, out),
+        Other::Get => getters(rt, world, out),
+        Other::Survey(count) => survey(rt, world, count, volume, out),
+        Other::Volume => show_volume(rt, world, volume, out),
         Other::Put(state, oldest, read, append, length) => {
-            put(world, state, oldest, read, append, length)
+            Ok(put(world, state, oldest, read, append, length))
         }
     }
 }

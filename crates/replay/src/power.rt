@@ -2,11 +2,12 @@
 use crate::world;
 use crate::world::World;
 use bench_flash::operation::{Left, Operation};
+use std::io;
 use tool_script::parse::Fault;
 use tool_script::trace;
 
 // What an operation leaves; an erase leaves no new page.
-#[derive(Drop)]
+#[derive(Clone, Copy)]
 pub(crate) enum Ending {
     Leaves(Left),
     Bad,
@@ -58,20 +59,21 @@ pub(crate) fn off(world: World, left: Left, volume: &mut [u8], page: &[u8]) -> W
 
 // `cut LEFT`
 pub(crate) fn cut(
+    rt: &impl Print,
     world: World,
     left: Left,
     volume: &mut [u8],
     page: &[u8],
     out: &mut [u8],
-) -> World {
+) -> io::Result<World> {
     let bench = world.bench;
     let operation = bench.operation;
     match leaves(operation, left) {
-        Ending::Bad => world::faulty(world, Fault::Word),
+        Ending::Bad => Ok(world::faulty(world, Fault::Word)),
         Ending::Leaves(leaves) => {
             let stop = trace::put(out, 0, b"cut");
-            trace::end(out, stop);
-            off(world, leaves, volume, page)
+            trace::end(rt, out, stop)?;
+            Ok(off(world, leaves, volume, page))
         }
     }
 }

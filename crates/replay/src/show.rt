@@ -4,6 +4,7 @@ use crate::world::World;
 use bench_step::world::{Delivery, Step};
 use engine_call::outcome::Outcome;
 use engine_state::answer::Answer;
+use std::io;
 use tool_script::trace;
 
 // What a delivered call gave.
@@ -40,23 +41,29 @@ pub(crate) fn call(name: &[u8], step: Step, page: &[u8], hold: &[u8], out: &mut 
 }
 
 pub(crate) fn finish(
+    rt: &impl Print,
     name: &[u8],
     world: World,
     step: Step,
     page: &[u8],
     hold: &[u8],
     out: &mut [u8],
-) -> World {
+) -> io::Result<World> {
     let stop = call(name, step, page, hold, out);
-    trace::end(out, stop);
+    trace::end(rt, out, stop)?;
     let bench = step.world;
-    world::after(world, bench, world.hostile)
+    Ok(world::after(world, bench, world.hostile))
 }
 
 // A call that needs the power, which is off.
-pub(crate) fn not_delivered(name: &[u8], world: World, out: &mut [u8]) -> World {
+pub(crate) fn not_delivered(
+    rt: &impl Print,
+    name: &[u8],
+    world: World,
+    out: &mut [u8],
+) -> io::Result<World> {
     let start = trace::put(out, 0, name);
     let stop = trace::put(out, start, b" not delivered");
-    trace::end(out, stop);
-    world
+    trace::end(rt, out, stop)?;
+    Ok(world)
 }

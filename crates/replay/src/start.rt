@@ -5,6 +5,7 @@ use crate::{power, world};
 use bench_step::world::{Setup, Step};
 use engine_state::fits;
 use engine_state::state::{Geometry, Log};
+use std::io;
 use tool_script::parse::Fault;
 use tool_script::text::Number;
 use tool_script::{text, trace};
@@ -23,7 +24,7 @@ fn buffer_size(width: usize, page_size: usize) -> usize {
 }
 
 // `circular` or `plain`.
-#[derive(Drop)]
+#[derive(Clone, Copy)]
 enum Mode {
     Circular(bool),
     Bad,
@@ -136,7 +137,7 @@ pub(crate) fn volume(line: &[u8], world: World, volume: &mut [u8]) -> World {
 }
 
 // 0 or 1.
-#[derive(Drop)]
+#[derive(Clone, Copy)]
 enum Flag {
     Set(bool),
     Bad,
@@ -161,7 +162,7 @@ fn lent_one(word: &[u8], buffer: &mut [u8], size: usize) -> Number {
 }
 
 // The lengths of the page and hold buffers that are lent.
-#[derive(Drop)]
+#[derive(Clone, Copy)]
 enum Lent {
     Lengths(usize, usize),
     Bad,
@@ -178,39 +179,54 @@ fn lent_both(line: &[u8], world: World, page: &mut [u8], hold: &mut [u8]) -> Len
 }
 
 // A restart that was refused.
-fn refused(page: &[u8], hold: &[u8], out: &mut [u8]) {
+fn refused(rt: &impl Print, page: &[u8], hold: &[u8], out: &mut [u8]) -> io::Result<()> {
     let start = trace::put(out, 0, b"restart 20 - - off 0 0 0 0");
     let middle = trace::bytes(out, start, page);
     let stop = trace::bytes(out, middle, hold);
-    trace::end(out, stop);
+    trace::end(rt, out, stop)
 }
 
 // A restart that was not.
-fn started(log: Log, page: &[u8], hold: &[u8], out: &mut [u8]) {
+fn started(rt: &impl Print, log: Log, page: &[u8], hold: &[u8], out: &mut [u8]) -> io::Result<()> {
     let name = trace::put(out, 0, b"restart 0 - -");
     let start = trace::log_fields(out, name, log);
     let middle = trace::bytes(out, start, page);
     let stop = trace::bytes(out, middle, hold);
-    trace::end(out, stop);
+    trace::end(rt, out, stop)
 }
 
 // The trace of a restart: the power is on where it was not refused.
-fn show(power: bool, log: Log, page: &[u8], hold: &[u8], out: &mut [u8]) {
+fn show(
+    rt: &impl Print,
+    power: bool,
+    log: Log,
+    page: &[u8],
+    hold: &[u8],
+    out: &mut [u8],
+) -> io::Result<()> {
     if power {
-        return started(log, page, hold, out);
+        return started(rt, log, page, hold, out);
     }
-    refused(page, hold, out);
+    refused(rt, page, hold, out)
 }
 
-fn finish(world: World, step: Step, page: &[u8], hold: &[u8], out: &mut [u8]) -> World {
+fn finish(
+    rt: &impl Print,
+    world: World,
+    step: Step,
+    page: &[u8],
+    hold: &[u8],
+    out: &mut [u8],
+) -> io::Result<World> {
     let bench = step.world;
     let log = bench.log;
-    show(bench.power, log, page, hold, out);
-    world::restarted(world, bench, page.len(), hold.len())
+    show(rt, bench.power, log, page, hold, out)?;
+    Ok(world::restarted(world, bench, page.len(), hold.len()))
 }
 
 // The log restarts with the buffers that are lent.
 fn run(
+    rt: &impl Print,
     world: World,
     read: bool,
     append: bool,
@@ -218,15 +234,16 @@ fn run(
     page: &mut [u8],
     hold: &[u8],
     out: &mut [u8],
-) -> World {
+) -> io::Result<World> {
     let setup = world.setup;
     let off = bench_step::world::undelivered(world.bench);
     let step = bench_step::power::restart(setup, off, read, append, volume, page, hold);
-    finish(world, step, page, hold, out)
+    finish(rt, world, step, page, hold, out)
 }
 
 // Runs a restart on the parts of the buffers that are in use.
 fn run_on(
+    rt: &impl Print,
     world: World,
     read: bool,
     append: bool,
@@ -236,8 +253,9 @@ fn run_on(
     hold: &[u8],
     hold_size: usize,
     out: &mut [u8],
-) -> World {
+) -> io::Result<World> {
     run(
+        rt,
         world,
         read,
         append,
@@ -250,6 +268,7 @@ fn run_on(
 
 // The buffers are lent, and the log restarts.
 fn with_buffers(
+    rt: &impl Print,
     line: &[u8],
     world: World,
     read: bool,
@@ -258,12 +277,12 @@ fn with_buffers(
     page: &mut [u8],
     hold: &mut [u8],
     out: &mut [u8],
-) -> World {
+) -> io::Result<World> {
     let Lent::Lengths(page_size, hold_size) = lent_both(line, world, page, hold) else {
-        return world::faulty(world, Fault::Bytes);
+        return Ok(world::faulty(world, Fault::Bytes));
     };
     run_on(
-        world, read, append, volume, page, page_size, hold, hold_size, out,
+        rt, world, read, append, volume, page, page_size, hold, hold_size, out,
     )
 }
 
@@ -296,28 +315,29 @@ fn cut(line: &[u8], world: World, volume: &mut [u8], page: &[u8]) -> World {
 
 // `restart R A PAGE HOLD LEFT`
 pub(crate) fn restart(
+    rt: &impl Print,
     line: &[u8],
     world: World,
     volume: &mut [u8],
     page: &mut [u8],
     hold: &mut [u8],
     out: &mut [u8],
-) -> World {
+) -> io::Result<World> {
     if !text::same(text::word(line, 0), b"restart") {
-        return world::faulty(world, Fault::Place);
+        return Ok(world::faulty(world, Fault::Place));
     }
     if !text::last(line, 5) {
-        return world::faulty(world, Fault::Words);
+        return Ok(world::faulty(world, Fault::Words));
     }
     let Flag::Set(read) = flag_of(text::word(line, 1)) else {
-        return world::faulty(world, Fault::Word);
+        return Ok(world::faulty(world, Fault::Word));
     };
     let Flag::Set(append) = flag_of(text::word(line, 2)) else {
-        return world::faulty(world, Fault::Word);
+        return Ok(world::faulty(world, Fault::Word));
     };
     let off = cut(line, world, volume, page);
     if world::is_faulty(off) {
-        return off;
+        return Ok(off);
     }
-    with_buffers(line, off, read, append, volume, page, hold, out)
+    with_buffers(rt, line, off, read, append, volume, page, hold, out)
 }

@@ -5,7 +5,7 @@ use engine_state::state::Geometry;
 use tool_script::parse::Fault;
 
 // The line that is due.
-#[derive(Drop)]
+#[derive(Clone, Copy)]
 pub(crate) enum Stage {
     Sizes,
     Volume,
@@ -13,7 +13,7 @@ pub(crate) enum Stage {
     Calls,
 }
 
-#[derive(Drop)]
+#[derive(Clone, Copy)]
 pub(crate) struct World {
     pub setup: Setup,
     pub stage: Stage,

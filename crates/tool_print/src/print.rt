@@ -1,48 +1,47 @@
-// Lines of output: a label, then numbers. The labels of a group of cases are the lines of one text.
-use libc::STDOUT_FILENO;
+// Lines of output: a label, then numbers. The labels of a group of cases are the lines of one text. A write that fails ends the line with its error.
+use std::io;
 
 // A byte of a text, written where its line is the one asked for; the number of the line after it.
-fn put(byte: u8, line: usize, asked: usize) -> usize {
+fn put(rt: &impl Print, byte: u8, line: usize, asked: usize) -> io::Result<usize> {
     if byte == 10 {
-        return std::num::wrapping_add_usize(line, 1);
+        return Ok(std::num::wrapping_add_usize(line, 1));
     }
     if line == asked {
-        io::write_all(STDOUT_FILENO, &[byte]);
+        rt.write_all(&[byte])?;
     }
-    line
+    Ok(line)
 }
 
 // A line of a text, counted from 0, and a colon.
-pub fn label(text: &[u8], asked: usize) {
+pub fn label(rt: &impl Print, text: &[u8], asked: usize) -> io::Result<()> {
     let mut line: usize = 0;
     let mut i: usize = 0;
     while i < text.len() {
         let byte = text[i];
-        line = put(byte, line, asked);
+        line = put(rt, byte, line, asked)?;
         i += 1;
     }
-    io::write_all(STDOUT_FILENO, b":");
+    rt.write_all(b":")
 }
 
-pub fn number(n: usize) {
-    io::write_all(STDOUT_FILENO, b" ");
-    io::print_decimal(STDOUT_FILENO, n as u64);
+pub fn number(rt: &impl Print, n: usize) -> io::Result<()> {
+    print!(rt; " {n}")
 }
 
-pub fn word(text: &[u8]) {
-    io::write_all(STDOUT_FILENO, b" ");
-    io::write_all(STDOUT_FILENO, text);
+pub fn word(rt: &impl Print, text: &[u8]) -> io::Result<()> {
+    rt.write_all(b" ")?;
+    rt.write_all(text)
 }
 
-pub fn end() {
-    io::write_all(STDOUT_FILENO, b"\n");
+pub fn end(rt: &impl Print) -> io::Result<()> {
+    rt.write_all(b"\n")
 }
 
 // A label and one number.
-pub fn line(text: &[u8], asked: usize, n: usize) {
-    label(text, asked);
-    number(n);
-    end();
+pub fn line(rt: &impl Print, text: &[u8], asked: usize, n: usize) -> io::Result<()> {
+    label(rt, text, asked)?;
+    number(rt, n)?;
+    end(rt)
 }
 
 fn wide(byte: u8) -> usize {
@@ -50,13 +49,13 @@ fn wide(byte: u8) -> usize {
 }
 
 // A label and the bytes of a slice, each as a number.
-pub fn bytes(text: &[u8], asked: usize, b: &[u8]) {
-    label(text, asked);
+pub fn bytes(rt: &impl Print, text: &[u8], asked: usize, b: &[u8]) -> io::Result<()> {
+    label(rt, text, asked)?;
     let mut i: usize = 0;
     while i < b.len() {
         let byte = b[i];
-        number(wide(byte));
+        number(rt, wide(byte))?;
         i += 1;
     }
-    end();
+    end(rt)
 }

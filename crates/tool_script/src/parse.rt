@@ -8,7 +8,7 @@ use engine_state::state::State;
 use page::id::EntryID;
 
 // What is wrong with a line.
-#[derive(Drop)]
+#[derive(Clone, Copy)]
 pub enum Fault {
     Nothing,
     Unknown,
@@ -22,7 +22,7 @@ pub enum Fault {
 }
 
 // The lines that are no call of the log's engine.
-#[derive(Drop)]
+#[derive(Clone, Copy)]
 pub enum Other {
     Cut(Left),
     Get,
@@ -32,7 +32,7 @@ pub enum Other {
 }
 
 // A line after the first three. The client's buffer stands beside a call; its length is given with the calls that have one.
-#[derive(Drop)]
+#[derive(Clone, Copy)]
 pub enum Line {
     Call(Call, usize),
     Complete(Completion, Left),
@@ -41,7 +41,7 @@ pub enum Line {
 }
 
 // The driver's word.
-#[derive(Drop)]
+#[derive(Clone, Copy)]
 pub enum Said {
     Word(Driver),
     Bad,
@@ -161,7 +161,7 @@ fn cut(line: &[u8]) -> Line {
 }
 
 // The state with a name.
-#[derive(Drop)]
+#[derive(Clone, Copy)]
 pub enum Named {
     State(State),
     Bad,

@@ -91,7 +91,7 @@ pub fn same(a: &[u8], b: &[u8]) -> bool {
 }
 
 // A word that is a number, or isn't.
-#[derive(Drop)]
+#[derive(Clone, Copy)]
 pub enum Number {
     Value(usize),
     Bad,

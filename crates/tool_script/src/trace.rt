@@ -4,7 +4,7 @@ use engine_call::outcome::Outcome;
 use engine_state::answer::{Report, Request};
 use engine_state::state::Log;
 use engine_state::{answer, state};
-use libc::STDOUT_FILENO;
+use std::io;
 
 // A byte goes to the line; one that has no room is left out.
 fn put_byte(line: &mut [u8], at: usize, byte: u8) -> usize {
@@ -34,9 +34,8 @@ pub fn field(line: &mut [u8], at: usize, word: &[u8]) -> usize {
 
 // A number, after a space.
 pub fn number(line: &mut [u8], at: usize, n: usize) -> usize {
-    let mut digits = [0u8; 20];
-    let count = io::decimal(n as u64, &mut digits);
-    field(line, at, &digits[..count])
+    let mut digits = itoa::Buffer::new();
+    field(line, at, digits.format(n).as_bytes())
 }
 
 // A digit below 16 in hexadecimal.
@@ -84,9 +83,9 @@ pub fn pair(line: &mut [u8], name: &[u8], a: usize, b: usize) -> usize {
 }
 
 // The line is written.
-pub fn end(line: &mut [u8], at: usize) {
+pub fn end(rt: &impl Print, line: &mut [u8], at: usize) -> io::Result<()> {
     let stop = put_byte(line, at, b'\n');
-    io::write_all(STDOUT_FILENO, text::part(line, 0, stop));
+    rt.write_all(text::part(line, 0, stop))
 }
 
 fn append_report(line: &mut [u8], at: usize, length: usize, lost: bool, res: u8) -> usize {
