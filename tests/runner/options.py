@@ -7,7 +7,8 @@ import sys
 
 from .sizes import WIDTHS
 
-TARGET = pathlib.Path(__file__).resolve().parents[2] / "target"
+ROOT = pathlib.Path(__file__).resolve().parents[2]
+TARGET = ROOT / "target"
 MACHINES = {4: "i686", 8: "x86_64"}
 
 
@@ -15,7 +16,7 @@ def parse_options(parser):
     """The options chosen, once for each width."""
     parser.add_argument("--width", default="both", choices=[*map(str, WIDTHS), "both"], help="bytes of a word (default: both)")
     parser.add_argument("--oracle", help="another Rust oracle, for one width")
-    parser.add_argument("--replay", default=TARGET / "bin/replay", help="the program that is compared with it")
+    parser.add_argument("--replay", default=ROOT / "crates/replay/out/replay", help="the program that is compared with it")
     chosen = parser.parse_args()
     if chosen.oracle and chosen.width == "both":
         parser.error("an oracle is for one width: name that with --width")
@@ -37,7 +38,7 @@ def need_oracle(chosen):
 
 
 def need_replay(chosen):
-    need(chosen.replay, "build it, or name it with --replay")
+    need(chosen.replay, "build it with rt run in crates/replay, or name it with --replay")
 
 
 def need(path, how):
