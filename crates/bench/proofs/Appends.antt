@@ -129,15 +129,15 @@ module _ {g : Setup} {volume : List ℕ} {b : Book} (bk : Books g volume b) {pag
             absurd (omega (arith, within))
 
     -- the page has room for it
-    pub stored-room : page_length w (es ++ (e ∷ [])) ≤ p
-    stored-room = omega (arith, longer w es e, fits, offset_open partly, partly)
+    pub stored_room : page_length w (es ++ (e ∷ [])) ≤ p
+    stored_room = omega (arith, longer w es e, fits, offset_open partly, partly)
 
     -- it stands at the end of the open page
-    pub stored-buffer : Buffered g (overwrite page (offset_of p a) (encode w e)) (a + length e + w) (with_entry b.open_page e)
-    stored-buffer =
+    pub stored_buffer : Buffered g (overwrite page (offset_of p a) (encode w e)) (a + length e + w) (with_entry b.open_page e)
+    stored_buffer =
         let at : overwrite page (offset_of p a) (encode w e) ≡ overwrite page (page_length w es) (encode w e) =
         ap (λ (i : ℕ). overwrite page i (encode w e)) (offset_open partly) in
-        let room : page_length w es + length (encode w e) ≤ length page = omega (arith, length_encode w e, stored-room, longer w es e, u.page_length_lem) in
+        let room : page_length w es + length (encode w e) ≤ length page = omega (arith, length_encode w e, stored_room, longer w es e, u.page_length_lem) in
         record {
           page_length_lem = ap (λ (l : List ℕ). length l) at ∙ length_overwrite page (page_length w es) (encode w e) room ∙ u.page_length_lem;
           appends = omega (arith, u.appends, longer w es e);

@@ -73,11 +73,11 @@ module _ (p : ℕ) (slots : ℕ → Option Page) (m : ℕ) where
 
   -- the slot has no page
   survey_none : slots m ≡ none → {x : Option Extent} {l : Option ℕ} {y : Option Page} → HeadersPages p slots m x l y → HeadersPages p slots (suc m) x l y
-  survey_none e (empty h) = empty (λ s b. none-at s b (dec_lt s m))
+  survey_none e (empty h) = empty (λ s b. none_at s b (dec_lt s m))
     where
-      none-at : (s : ℕ) → s < suc m → Dec (s < m) → slots s ≡ none
-      none-at s b (yes l) = h s l
-      none-at s b (no l) = let i : s ≡ m = omega arith in rw i e
+      none_at : (s : ℕ) → s < suc m → Dec (s < m) → slots s ≡ none
+      none_at s b (yes l) = h s l
+      none_at s b (no l) = let i : s ≡ m = omega arith in rw i e
   survey_none e (some_pages el eg b t) = some_pages el eg (bottom_old (λ j i. absurd (none_or_some e i)) b) (top_old (λ j i. absurd (none_or_some e i)) t)
 
   -- the slot has a page
@@ -87,8 +87,8 @@ module _ (p : ℕ) (slots : ℕ → Option Page) (m : ℕ) where
     number_is j i = ap (λ (r : Page). r.number) (one_page e i)
 
     -- it is the newest
-    top-new : ((s : ℕ) (j : Page) → s < m → slots s ≡ some j → j.number ≤ k.number) → Top slots (suc m) k
-    top-new h = record {
+    top_new : ((s : ℕ) (j : Page) → s < m → slots s ≡ some j → j.number ≤ k.number) → Top slots (suc m) k
+    top_new h = record {
       slot = m;
       below = omega arith;
       is = e;
@@ -96,8 +96,8 @@ module _ (p : ℕ) (slots : ℕ → Option Page) (m : ℕ) where
     }
 
     -- its number is the least
-    bottom-new : ((s : ℕ) (j : Page) → s < m → slots s ≡ some j → k.number ≤ j.number) → Bottom slots (suc m) k.number
-    bottom-new h = record {
+    bottom_new : ((s : ℕ) (j : Page) → s < m → slots s ≡ some j → k.number ≤ j.number) → Bottom slots (suc m) k.number
+    bottom_new h = record {
       page = k;
       slot = m;
       below = omega arith;
@@ -107,25 +107,25 @@ module _ (p : ℕ) (slots : ℕ → Option Page) (m : ℕ) where
     }
 
     -- the newer of the two
-    top-next : {j : Page} → Top slots m j → Dec (k.number < j.number) → Top slots (suc m) (newer k (some j))
-    top-next {j} t (yes l) = rw (lt-ltb k.number j.number l) (top_old (λ i q. omega (arith, number_is i q, l)) t)
-    top-next {j} t (no l) =
+    top_next : {j : Page} → Top slots m j → Dec (k.number < j.number) → Top slots (suc m) (newer k (some j))
+    top_next {j} t (yes l) = rw (lt-ltb k.number j.number l) (top_old (λ i q. omega (arith, number_is i q, l)) t)
+    top_next {j} t (no l) =
         let u : j.number ≤ k.number = omega arith in
-        rw (le-ltb k.number j.number u) (top-new (λ s i b q. omega (arith, t.to s i b q)))
+        rw (le-ltb k.number j.number u) (top_new (λ s i b q. omega (arith, t.to s i b q)))
 
     -- the lesser number
-    bottom-next : {a : ℕ} → Bottom slots m a → Dec (a < k.number) → Bottom slots (suc m) (lesser k.number (some a))
-    bottom-next {a} t (yes l) = rw (lt-ltb a k.number l) (bottom_old (λ i q. omega (arith, number_is i q, l)) t)
-    bottom-next {a} t (no l) =
+    bottom_next : {a : ℕ} → Bottom slots m a → Dec (a < k.number) → Bottom slots (suc m) (lesser k.number (some a))
+    bottom_next {a} t (yes l) = rw (lt-ltb a k.number l) (bottom_old (λ i q. omega (arith, number_is i q, l)) t)
+    bottom_next {a} t (no l) =
         let u : k.number ≤ a = omega arith in
-        rw (le-ltb a k.number u) (bottom-new (λ s i b q. omega (arith, t.from s i b q)))
+        rw (le-ltb a k.number u) (bottom_new (λ s i b q. omega (arith, t.from s i b q)))
 
     -- all of them together
-    survey-some : {x : Option Extent} {l : Option ℕ} {y : Option Page} → HeadersPages p slots m x l y
+    survey_some : {x : Option Extent} {l : Option ℕ} {y : Option Page} → HeadersPages p slots m x l y
         → HeadersPages p slots (suc m) (some (widen (k.number * p) x)) (some (lesser k.number l)) (some (newer k y))
-    survey-some (empty h) =
-        some_pages refl refl (bottom-new (λ s j b i. absurd (none_or_some (h s b) i))) (top-new (λ s j b i. absurd (none_or_some (h s b) i)))
-    survey-some (some_pages {x} {a} {k = j} el eg b t) = some_pages (low less) (high more) (bottom-next b less) (top-next t more)
+    survey_some (empty h) =
+        some_pages refl refl (bottom_new (λ s j b i. absurd (none_or_some (h s b) i))) (top_new (λ s j b i. absurd (none_or_some (h s b) i)))
+    survey_some (some_pages {x} {a} {k = j} el eg b t) = some_pages (low less) (high more) (bottom_next b less) (top_next t more)
       where
         less : Dec (a < k.number)
         less = dec_lt a k.number
@@ -153,4 +153,4 @@ headers_pages g volume slots z h (suc m) b =
         → HeadersPages g.p slots (suc m) (extent (joined (header g.w g.p g.n volume m) ids)) (least (with_page o ks)) (newest (with_page o ks))
     go none e v ids ks s = rw v (survey_none g.p slots m e s)
     go (some k) e v ids ks s =
-        rw (page_in_slot z volume m k.number k.entries v.below v.bytes (sym v.slot)) (survey-some g.p slots m k e s)
+        rw (page_in_slot z volume m k.number k.entries v.below v.bytes (sym v.slot)) (survey_some g.p slots m k e s)

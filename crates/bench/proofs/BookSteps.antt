@@ -23,7 +23,7 @@ use Rattle.page.proofs.Kit.{facts, same_slot, pages_le, round_first, both}
 use Rattle.page.proofs.Words.{length_word_bytes}
 use Rattle.page.proofs.Overwrites.{length_overwrite}
 use Rattle.page.proofs.Headers.{take_replicate, blank_header}
-use Rattle.page.proofs.Slots.{length-put, put_same, put_other, header_slots}
+use Rattle.page.proofs.Slots.{length_put, put_same, put_other, header_slots}
 use Rattle.page.proofs.Pages.{length_whole_page, begins_header, begins_whole}
 use Rattle.engine_state.specs.Log.{Setup, State}
 use Rattle.engine_state.specs.Check.{Sized}
@@ -168,8 +168,8 @@ module _ (slots : ℕ → Option Page) (s : ℕ) (x : Option Page) where
     has_kept h d = record { page = h.page; there = slot_other (slot_of g.n m) d ∙ h.there; number = h.number }
 
     -- a page that is there then is the slot's, or one of another slot
-    has-changed : (h : Has g (in_book slots s x) m) → (x ≡ some h.page) ⊎ Elsewhere g slots s m
-    has-changed h = go (ℕ_discrete (slot_of g.n m) s)
+    has_changed : (h : Has g (in_book slots s x) m) → (x ≡ some h.page) ⊎ Elsewhere g slots s m
+    has_changed h = go (ℕ_discrete (slot_of g.n m) s)
       where
         go : Dec (slot_of g.n m ≡ s) → (x ≡ some h.page) ⊎ Elsewhere g slots s m
         go (yes e) = inl (sym slot_same ∙ ap (in_book slots s x) (sym e) ∙ h.there)
@@ -177,7 +177,7 @@ module _ (slots : ℕ → Option Page) (s : ℕ) (x : Option Page) where
 
 -- a page that is still there after a slot was emptied
 pub has_left : (g : Setup) (slots : ℕ → Option Page) (s m : ℕ) → Has g (in_book slots s none) m → Elsewhere g slots s m
-has_left g slots s m h = go (has-changed slots s none g m h)
+has_left g slots s m h = go (has_changed slots s none g m h)
   where
     go : (none ≡ some h.page) ⊎ Elsewhere g slots s m → Elsewhere g slots s m
     go (inl e) = absurd (none_or_some refl e)
@@ -186,7 +186,7 @@ has_left g slots s m h = go (has-changed slots s none g m h)
 -- a page that is there after a slot got a page is that page, or one of another slot
 pub has_put : (g : Setup) (slots : ℕ → Option Page) (s m : ℕ) (k : Page) → Has g (in_book slots s (some k)) m
     → (m ≡ k.number) ⊎ Elsewhere g slots s m
-has_put g slots s m k h = go (has-changed slots s (some k) g m h)
+has_put g slots s m k h = go (has_changed slots s (some k) g m h)
   where
     go : (some k ≡ some h.page) ⊎ Elsewhere g slots s m → (m ≡ k.number) ⊎ Elsewhere g slots s m
     go (inl e) = inl (sym h.number ∙ ap (λ (q : Page). q.number) (one_page e refl))
@@ -212,7 +212,7 @@ books_same bk e s = record {
 pub books_none : (g : Setup) {volume : List ℕ} (b : Book) → Sized g → g.first ≤ 16_777_215 → length volume ≡ g.n * g.p
     → ((s : ℕ) → s < g.n → SlotHolds g volume s (b.slots s)) → ((m : ℕ) → Has g b.slots m → ⊥)
     → Books g volume (with_open b (empty_page 0))
-books_none g b z first whole slots none-there = record {
+books_none g b z first whole slots none_there = record {
   sizes = z;
   first = first;
   whole = whole;
@@ -220,9 +220,9 @@ books_none g b z first whole slots none-there = record {
   open_fits = omega (arith, facts z);
   open_good = tt;
   slots = slots;
-  near = λ m h. absurd (none-there m h);
-  gaps = λ m h. absurd (none-there m h);
-  open_some = λ h. absurd (none-there 0 h);
+  near = λ m h. absurd (none_there m h);
+  gaps = λ m h. absurd (none_there m h);
+  open_some = λ h. absurd (none_there 0 h);
 }
 
 -- another open page with the same slots
@@ -288,20 +288,20 @@ module _ {g : Setup} {volume : List ℕ} {b : Book} (bk : Books g volume b) (s :
   books_put x holds is_open here = record {
     sizes = bk.sizes;
     first = bk.first;
-    whole = ap (λ (v : List ℕ). length v) put_is ∙ length-put g.p g.n volume bk.whole page long s h;
+    whole = ap (λ (v : List ℕ). length v) put_is ∙ length_put g.p g.n volume bk.whole page long s h;
     open_allowed = bk.open_allowed;
     open_fits = bk.open_fits;
     open_good = bk.open_good;
-    slots = λ t l. by-slot t l (ℕ_discrete t s);
-    near = λ m i. by_near m i.page i.number (has-changed b.slots s x g m i);
-    gaps = λ m i j l u. by-gaps m j l u i.page i.number (has-changed b.slots s x g m i);
-    open_some = λ i. by-open i.page (has-changed b.slots s x g _ i);
+    slots = λ t l. by_slot t l (ℕ_discrete t s);
+    near = λ m i. by_near m i.page i.number (has_changed b.slots s x g m i);
+    gaps = λ m i j l u. by_gaps m j l u i.page i.number (has_changed b.slots s x g m i);
+    open_some = λ i. by_open i.page (has_changed b.slots s x g _ i);
   }
     where
-      by-slot : (t : ℕ) → t < g.n → Dec (t ≡ s) → SlotHolds g after t (in_book b.slots s x t)
-      by-slot t l (yes e) =
+      by_slot : (t : ℕ) → t < g.n → Dec (t ≡ s) → SlotHolds g after t (in_book b.slots s x t)
+      by_slot t l (yes e) =
           subst (λ (y : ℕ). SlotHolds g after y (in_book b.slots s x y)) (sym e) (subst (SlotHolds g after s) (sym (slot_same b.slots s x)) holds)
-      by-slot t l (no d) =
+      by_slot t l (no d) =
           subst (SlotHolds g after t) (sym (slot_other b.slots s x t d))
           (holds_same g volume after t bk.sizes (b.slots t) (put_there t l d) (bk.slots t l))
 
@@ -309,15 +309,15 @@ module _ {g : Setup} {volume : List ℕ} {b : Book} (bk : Books g volume b) (s :
       by_near m k i (inl e) = let q = (is_open k e).0 in (omega arith, omega arith)
       by_near m k i (inr c) = bk.near m c.0
 
-      by-open : (k : Page) → (x ≡ some k) ⊎ Elsewhere g b.slots s b.open_page.number
+      by_open : (k : Page) → (x ≡ some k) ⊎ Elsewhere g b.slots s b.open_page.number
           → SomeEntry b.open_page
-      by-open k (inl e) = (is_open k e).1
-      by-open k (inr c) = bk.open_some c.0
+      by_open k (inl e) = (is_open k e).1
+      by_open k (inr c) = bk.open_some c.0
 
-      by-gaps : (m j : ℕ) → m ≤ j → j < b.open_page.number → (k : Page) → k.number ≡ m
+      by_gaps : (m j : ℕ) → m ≤ j → j < b.open_page.number → (k : Page) → k.number ≡ m
           → (x ≡ some k) ⊎ Elsewhere g b.slots s m → HasOrBlank g after (in_book b.slots s x) j
-      by-gaps m j l u k i (inl e) = let q = (is_open k e).0 in absurd (omega arith)
-      by-gaps m j l u k i (inr c) = go (ℕ_discrete (slot_of g.n j) s) (bk.gaps m c.0 j l u)
+      by_gaps m j l u k i (inl e) = let q = (is_open k e).0 in absurd (omega arith)
+      by_gaps m j l u k i (inr c) = go (ℕ_discrete (slot_of g.n j) s) (bk.gaps m c.0 j l u)
         where
           go : Dec (slot_of g.n j ≡ s) → HasOrBlank g volume b.slots j → HasOrBlank g after (in_book b.slots s x) j
           go (yes e) a = here m j c l u e

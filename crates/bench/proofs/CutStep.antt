@@ -18,7 +18,7 @@ use Rattle.bench.proofs.AppendStep.{append_step}
 use Rattle.bench.proofs.SyncStep.{sync_step}
 use Rattle.bench.proofs.WrittenKeeps.{ended_step, lent_then, due_ends}
 use Rattle.bench.proofs.WriteStep.{append_ends, sync_ends}
-use Rattle.bench.proofs.EraseStep.{erase_step, erase-ends}
+use Rattle.bench.proofs.EraseStep.{erase_step, erase_ends}
 
 module _ {x : World} {b : Book} (v : Inv x.log.setup x b) (r : Running x.log.setup x b) where
   abbrev g : Setup
@@ -38,14 +38,14 @@ module _ {x : World} {b : Book} (v : Inv x.log.setup x b) (r : Running x.log.set
       → After g b (completion c left) (completion_step g x c left)
   completion_step_lem c left = go c x.log.state x.operation refl r.under
     where
-      stepBy : Completion → Operation → Step
-      stepBy c op = pick (ends c op) (ended_step x op c left (complete x.log (lent_then x op c left) c)) (stray_step g x c)
+      step_by : Completion → Operation → Step
+      step_by c op = pick (ends c op) (ended_step x op c left (complete x.log (lent_then x op c left) c)) (stray_step g x c)
 
       stray : (c : Completion) → After g b (completion c left) (stray_step g x c)
       stray c = stray_inv v.books r v c left
 
       go : (c : Completion) (s : State) (op : Operation) → x.log.state ≡ s → UnderIn g x b r.oldest.page s op
-          → Clear (entry_of b (completion c left) (stepBy c op).told) → After g b (completion c left) (stepBy c op)
+          → Clear (entry_of b (completion c left) (step_by c op).told) → After g b (completion c left) (step_by c op)
       go (write_ended good) _ _ e under.idle clear = stray (write_ended good)
       go (write_ended good) _ _ e under.read clear = stray (write_ended good)
       go (write_ended good) _ _ e under.seek clear = stray (write_ended good)
@@ -63,7 +63,7 @@ module _ {x : World} {b : Book} (v : Inv x.log.setup x b) (r : Running x.log.set
       go (erase_ended good word) _ _ e under.stuck clear = stray (erase_ended good word)
       go (erase_ended good word) _ _ e (under.erase q) clear =
           due_ends v.books r (under.erase q) (erase_ended good word) left (ap (λ (s : State). not (is s Erase)) e)
-          (erase-ends v.books r q left good word) clear
+          (erase_ends v.books r q left good word) clear
       go (erase_ended good word) _ _ e (under.sync wr) clear = stray (erase_ended good word)
       go (erase_ended good word) _ _ e (under.append wr wa) clear = stray (erase_ended good word)
 

@@ -111,24 +111,24 @@ module _ {l : Log} {x : Lent} (q : Reader l x) where
 
   module _ {r kept : ℕ} (v : Within l r kept) where
     -- a read with a buffer that is long enough gives what it finds
-    reads-found : (room : ℕ) → l.setup.p ≤ room
+    reads_found : (room : ℕ) → l.setup.p ≤ room
         → read (reading_log l Idle r kept) x room l.setup.p ≡ read_done_of (reading_log l Idle r kept) x (found_from l x r kept)
     unfolding first_of kept_fits read_runs found
-    reads-found room m = rw (run_passes Idle refl v, le-ltb room l.setup.p m, le-ltb l.append r v.read, q.client)
+    reads_found room m = rw (run_passes Idle refl v, le-ltb room l.setup.p m, le-ltb l.append r v.read, q.client)
 
     -- where no entry is found the run ends
     pub reads_end : found_from l x r kept ≡ no_entry FAIL → ReadsFrom l x r kept []
-    reads_end none-there = on_ends {l = reading_log l Idle r kept} (λ bytes m. rw (reads-found (length bytes) m, none-there))
+    reads_end none_there = on_ends {l = reading_log l Idle r kept} (λ bytes m. rw (reads_found (length bytes) m, none_there))
 
     -- the entry that is found is read, and reading goes on past it
-    pub reads-entry : {id : ℕ} {e : List ℕ} {es : List (List ℕ)} → found_from l x r kept ≡ entry id (length e)
+    pub reads_entry : {id : ℕ} {e : List ℕ} {es : List (List ℕ)} → found_from l x r kept ≡ entry id (length e)
         → held_at l x (id + l.setup.w) (length e) ≡ e → Within l (id + l.setup.w + length e) (length e)
         → ReadsFrom l x (id + l.setup.w + length e) (length e) es → ReadsFrom l x r kept (e ∷ es)
     unfolding read_buffer found
-    reads-entry {id} {e} {es} there bytes-are next on =
+    reads_entry {id} {e} {es} there bytes-are next on =
         on_goes {l = reading_log l Idle r kept} {next = reading_log l Read (id + l.setup.w + length e) (length e)} {e = e}
         (λ bytes m.
-        let one = reads-found (length bytes) m in
+        let one = reads_found (length bytes) m in
         record {
           answer = rw (one, there);
           log = rw (one, there);

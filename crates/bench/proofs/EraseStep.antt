@@ -30,7 +30,7 @@ use Rattle.bench.proofs.Invariant.{SomeEntry, Has, Live, Books, Oldest, Under, U
 use Rattle.bench.proofs.BookSteps.{Elsewhere, has_left, books_same, books_none, books_ended, buffered_zero}
 use Rattle.bench.proofs.Appends.{oldest_of_lem, some_length}
 use Rattle.bench.proofs.Quiet.{no_start, under_nothing, idle_rests, refused_inv}
-use Rattle.bench.proofs.WrittenKeeps.{Ends, lent_then, left-inv}
+use Rattle.bench.proofs.WrittenKeeps.{Ends, lent_then, left_inv}
 
 -- an erase of the page o that is asked for in state Erase is under way, or nothing is
 asked_under : {g : Setup} {page hold : List ℕ} {kept : ℕ} (b : Book) (t o : ℕ) → t ≡ slot_of g.n o → {op : Operation} → op ≡ no_operation → (word : Word)
@@ -98,12 +98,12 @@ module _ {x : World} {b : Book} (bk : Books x.log.setup x.volume b) (r : Running
     lent good word = lent_then x op (erase_ended good word) left
 
     -- a failed erase
-    failed-erase : (word : Word) → Keeps false word (erase_failed x.log (lent false word))
+    failed_erase : (word : Word) → Keeps false word (erase_failed x.log (lent false word))
     unfolding recorded
-    failed-erase word clear fits =
+    failed_erase word clear fits =
         let live : (m : ℕ) → Has g (in_book b.slots b.erase_slot none) m → Live g b.open_page o m =
         λ m h. r.oldest.live m (has_left g b.slots b.erase_slot m h).0 in
-        rw (no_start no_operation word g.first) (left-inv bk r x.log.kept fits b.erase_slot none live left (books_ended bk under left))
+        rw (no_start no_operation word g.first) (left_inv bk r x.log.kept fits b.erase_slot none live left (books_ended bk under left))
 
     -- the slots without the page
     abbrev slots : ℕ → Option Page
@@ -113,16 +113,16 @@ module _ {x : World} {b : Book} (bk : Books x.log.setup x.volume b) (r : Running
     abbrev volume : List ℕ
     volume = after_end p op x.page new x.volume
 
-    erased-books : Books g volume (with_slot b b.erase_slot none)
-    erased-books = books_ended bk under new
+    erased_books : Books g volume (with_slot b b.erase_slot none)
+    erased_books = books_ended bk under new
 
     -- a page that is left, in another slot than the oldest
-    page-left : (m : ℕ) → Has g slots m → Elsewhere g b.slots (slot_of n o) m
-    page-left m h = subst (λ (s : ℕ). Elsewhere g b.slots s m) e (has_left g b.slots b.erase_slot m h)
+    page_left : (m : ℕ) → Has g slots m → Elsewhere g b.slots (slot_of n o) m
+    page_left m h = subst (λ (s : ℕ). Elsewhere g b.slots s m) e (has_left g b.slots b.erase_slot m h)
 
     -- where the last page was erased, no page is left
     none_left : x.log.append ≤ x.log.oldest + p → (m : ℕ) → Has g slots m → ⊥
-    none_left last m h = go (page-left m h) (r.oldest.live m (page-left m h).0) (ℕ_discrete m o)
+    none_left last m h = go (page_left m h) (r.oldest.live m (page_left m h).0) (ℕ_discrete m o)
       where
         near : k < o + 2
         near = pages_lt k (o + 2) p {x = k * p} (omega arith) (omega (arith, last, r.oldest.first, r.buffer.appends, f.page))
@@ -144,11 +144,11 @@ module _ {x : World} {b : Book} (bk : Books x.log.setup x.volume b) (r : Running
             d (sym (add-mod_right m n) ∙ ap (slot_of n) (l.0 ∙ q))
 
     -- the last page is erased: the log is as after a restart on no header
-    reset-ends : x.log.append ≤ x.log.oldest + p → (word : Word) → Keeps true word (reset x.log (lent true word))
+    reset_ends : x.log.append ≤ x.log.oldest + p → (word : Word) → Keeps true word (reset x.log (lent true word))
     unfolding recorded
-    reset-ends last word clear fits =
+    reset_ends last word clear fits =
         rw (no_start no_operation word g.first) (record {
-          books = books_none g (with_slot b b.erase_slot none) bk.sizes bk.first erased-books.whole erased-books.slots (none_left last);
+          books = books_none g (with_slot b b.erase_slot none) bk.sizes bk.first erased_books.whole erased_books.slots (none_left last);
           powered = record {
             setup = refl;
             hold_length = r.hold_length;
@@ -160,15 +160,15 @@ module _ {x : World} {b : Book} (bk : Books x.log.setup x.volume b) (r : Running
         })
 
     -- O's page is the next one
-    next-oldest : x.log.oldest + p < x.log.append → Oldest g (x.log.oldest + p) slots b.open_page
-    next-oldest more =
+    next_oldest : x.log.oldest + p < x.log.append → Oldest g (x.log.oldest + p) slots b.open_page
+    next_oldest more =
         let q : o + 1 < k + 1 =
         pages_lt (o + 1) (k + 1) p {x = x.log.oldest + p} (omega (arith, r.oldest.first)) (omega (arith, more, r.buffer.appends, bk.open_fits)) in
         record {
           page = o + 1;
           first = omega (arith, r.oldest.first);
           near = (omega (arith, q), omega (arith, r.oldest.near.1));
-          live = λ m h. go m (page-left m h) (r.oldest.live m (page-left m h).0) (ℕ_discrete m o);
+          live = λ m h. go m (page_left m h) (r.oldest.live m (page_left m h).0) (ℕ_discrete m o);
         }
       where
         go : (m : ℕ) → Elsewhere g b.slots (slot_of n o) m → Live g b.open_page o m → Dec (m ≡ o) → Live g b.open_page (o + 1) m
@@ -178,35 +178,35 @@ module _ {x : World} {b : Book} (bk : Books x.log.setup x.volume b) (r : Running
 
     -- the erase goes on to the next page
     module _ (more : x.log.oldest + p < x.log.append) where
-      abbrev nextLog : State → ℕ → Log
-      nextLog state at = moved x.log state (x.log.oldest + p) at x.log.append x.log.kept
+      abbrev next_log : State → ℕ → Log
+      next_log state at = moved x.log state (x.log.oldest + p) at x.log.append x.log.kept
 
       -- the book with the erase of a slot asked for
-      abbrev nextBook : ℕ → Book
-      nextBook s = asked (with_slot b b.erase_slot none) (some s)
+      abbrev next_book : ℕ → Book
+      next_book s = asked (with_slot b b.erase_slot none) (some s)
 
-      next-inv : (state : State) (at s : ℕ) (next : Operation) → state_fits (nextLog state at) ≡ true
-          → UnderIn g x (nextBook s) (next-oldest more).page state next
-          → Inv g (record { power = true; log = nextLog state at; page = x.page; hold = x.hold; volume = volume; operation = next }) (nextBook s)
-      next-inv state at s next fits u = record {
-        books = books_same erased-books b.waiting s;
-        powered = record { setup = refl; hold_length = r.hold_length; fits = fits; buffer = r.buffer; oldest = next-oldest more; under = u };
+      next_inv : (state : State) (at s : ℕ) (next : Operation) → state_fits (next_log state at) ≡ true
+          → UnderIn g x (next_book s) (next_oldest more).page state next
+          → Inv g (record { power = true; log = next_log state at; page = x.page; hold = x.hold; volume = volume; operation = next }) (next_book s)
+      next_inv state at s next fits u = record {
+        books = books_same erased_books b.waiting s;
+        powered = record { setup = refl; hold_length = r.hold_length; fits = fits; buffer = r.buffer; oldest = next_oldest more; under = u };
       }
 
       -- its slot
-      next-slot : slot_of n (page_of p (x.log.oldest + p)) ≡ slot_of n (next-oldest more).page
-      next-slot = ap (slot_of n) (oldest_of_lem bk.sizes (next-oldest more))
+      next_slot : slot_of n (page_of p (x.log.oldest + p)) ≡ slot_of n (next_oldest more).page
+      next_slot = ap (slot_of n) (oldest_of_lem bk.sizes (next_oldest more))
 
       -- whatever the driver's word
       next_ends : (word : Word) → Keeps true word (erases_next x.log (lent true word) word)
       unfolding recorded
-      next_ends ok clear fits = next-inv Erase x.log.read _ _ fits (asked_under (with_slot b b.erase_slot none) _ _ next-slot refl ok)
-      next_ends busy clear fits = next-inv Idle (read_after_busy x.log.read x.log.oldest) _ _ fits idle
-      next_ends fail clear fits = next-inv Erase x.log.read _ _ fits (asked_under (with_slot b b.erase_slot none) _ _ next-slot refl fail)
+      next_ends ok clear fits = next_inv Erase x.log.read _ _ fits (asked_under (with_slot b b.erase_slot none) _ _ next_slot refl ok)
+      next_ends busy clear fits = next_inv Idle (read_after_busy x.log.read x.log.oldest) _ _ fits idle
+      next_ends fail clear fits = next_inv Erase x.log.read _ _ fits (asked_under (with_slot b b.erase_slot none) _ _ next_slot refl fail)
 
     -- an erase that ends
-    pub erase-ends : (good : Bool) (word : Word) → Keeps good word (erase_runs x.log (lent good word) good word)
+    pub erase_ends : (good : Bool) (word : Word) → Keeps good word (erase_runs x.log (lent good word) good word)
     unfolding erase_runs
-    erase-ends true word =
-        by_pick (Keeps true word) (last_erased x.log) (λ t. reset-ends (leb-true _ _ t) word) (λ t. next_ends (leb-false _ _ t) word)
-    erase-ends false word = failed-erase word
+    erase_ends true word =
+        by_pick (Keeps true word) (last_erased x.log) (λ t. reset_ends (leb-true _ _ t) word) (λ t. next_ends (leb-false _ _ t) word)
+    erase_ends false word = failed_erase word

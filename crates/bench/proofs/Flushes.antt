@@ -94,18 +94,18 @@ module _ {x : World} {b : Book} (bk : Books x.log.setup x.volume b) (r : Running
 
   -- O after the flush
   pub flushed_oldest : SomeEntry b.open_page → Room g oldest b.slots b.open_page
-  flushed_oldest some_entry = first-lap (dec_lt k n)
+  flushed_oldest some_entry = first_lap (dec_lt k n)
     where
-      on-lap : overwrites ≡ k - n → n ≤ k → Dec (o + n ≡ k) → Room g oldest b.slots b.open_page
-      on-lap e h (yes l) = moves some_entry l (omega (arith, e))
-      on-lap e h (no d) = stays (λ (z : o ≡ overwrites). d (omega (arith, e, h, z))) (omega (arith, r.oldest.near.1, d))
+      on_lap : overwrites ≡ k - n → n ≤ k → Dec (o + n ≡ k) → Room g oldest b.slots b.open_page
+      on_lap e h (yes l) = moves some_entry l (omega (arith, e))
+      on_lap e h (no d) = stays (λ (z : o ≡ overwrites). d (omega (arith, e, h, z))) (omega (arith, r.oldest.near.1, d))
 
-      first-lap : Dec (k < n) → Room g oldest b.slots b.open_page
-      first-lap (yes h) =
+      first_lap : Dec (k < n) → Room g oldest b.slots b.open_page
+      first_lap (yes h) =
           let s = state_fits_lem x.log r.fits in
           stays (λ (z : o ≡ overwrites). overwritten_none bk.sizes k h x.log.oldest (omega (arith, s.ordered, s.limited)) (here ∙ z ∙ overwrites_is))
           (omega arith)
-      first-lap (no h) = on-lap (overwrites_is ∙ overwritten_lap bk.sizes k (allowed_first bk) (omega (arith, h))) (omega (arith, h)) (ℕ_discrete (o + n) k)
+      first_lap (no h) = on_lap (overwrites_is ∙ overwritten_lap bk.sizes k (allowed_first bk) (omega (arith, h))) (omega (arith, h)) (ℕ_discrete (o + n) k)
 
   -- a flush in a state, with another kept length and hold buffer, of an open page that has an entry
   module _ (s : State) (kept : ℕ) (hold : List ℕ) (long : length hold ≡ p) (some_entry : SomeEntry b.open_page) where
@@ -117,16 +117,16 @@ module _ {x : World} {b : Book} (bk : Books x.log.setup x.volume b) (r : Running
     later = (flushed_oldest some_entry).kept.page
 
     -- the book with other data waiting
-    abbrev waitingBook : List ℕ → Book
-    waitingBook e = record { slots = b.slots; open_page = b.open_page; waiting = e; erase_slot = b.erase_slot }
+    abbrev waiting_book : List ℕ → Book
+    waiting_book e = record { slots = b.slots; open_page = b.open_page; waiting = e; erase_slot = b.erase_slot }
 
     -- what it keeps, but for what is under way
-    flush-inv : (word : Word) (e : List ℕ) → state_fits (flushed word).outcome.log ≡ true
-        → Under g (flushed word).page hold kept (waitingBook e) later (state_after word s)
+    flush_inv : (word : Word) (e : List ℕ) → state_fits (flushed word).outcome.log ≡ true
+        → Under g (flushed word).page hold kept (waiting_book e) later (state_after word s)
         (under_way x.operation (flushed word).outcome.request word g.first)
-        → Inv g (delivered g.first x unended (flushed word) word).world (waitingBook e)
+        → Inv g (delivered g.first x unended (flushed word) word).world (waiting_book e)
     unfolding flush
-    flush-inv word e fits under = record {
+    flush_inv word e fits under = record {
       books = books_same bk e b.erase_slot;
       powered = record {
         setup = refl;
@@ -139,18 +139,18 @@ module _ {x : World} {b : Book} (bk : Books x.log.setup x.volume b) (r : Running
     }
 
     -- the driver accepts: the open page is being written
-    pub flush-accepted : (e : List ℕ) → state_fits (flushed ok).outcome.log ≡ true
-        → (Writes g (flushed ok).page b.open_page later → Under g (flushed ok).page hold kept (waitingBook e) later s (writing (slot_of n k)))
-        → Inv g (delivered g.first x unended (flushed ok) ok).world (waitingBook e)
+    pub flush_accepted : (e : List ℕ) → state_fits (flushed ok).outcome.log ≡ true
+        → (Writes g (flushed ok).page b.open_page later → Under g (flushed ok).page hold kept (waiting_book e) later s (writing (slot_of n k)))
+        → Inv g (delivered g.first x unended (flushed ok) ok).world (waiting_book e)
     unfolding flush
-    flush-accepted e fits under =
+    flush_accepted e fits under =
         let slot : g.first + slot_of n (last_page x.log) - g.first ≡ slot_of n k = omega arith ∙ ap (slot_of n) (last_open bk r.buffer) in
-        flush-inv ok e fits
-        (subst (λ (t : ℕ). Under g (flushed ok).page hold kept (waitingBook e) later s (writing t)) (sym slot)
+        flush_inv ok e fits
+        (subst (λ (t : ℕ). Under g (flushed ok).page hold kept (waiting_book e) later s (writing t)) (sym slot)
         (under (record { room = (flushed_oldest some_entry).room; some_entry = some_entry; bytes = flushed_whole bk r.buffer })))
 
     -- it refuses: the log is Idle, and nothing is under way
-    pub flush-refused : (word : Word) → state_after word s ≡ Idle → under_way x.operation (flushed word).outcome.request word g.first ≡ x.operation
+    pub flush_refused : (word : Word) → state_after word s ≡ Idle → under_way x.operation (flushed word).outcome.request word g.first ≡ x.operation
         → x.log.state ≡ Idle → state_fits (flushed word).outcome.log ≡ true → Inv g (delivered g.first x unended (flushed word) word).world b
-    flush-refused word idle same i fits =
-        flush-inv word b.waiting fits (under_rests (idle_rests idle) (same ∙ under_nothing (idle_rests i) r.under))
+    flush_refused word idle same i fits =
+        flush_inv word b.waiting fits (under_rests (idle_rests idle) (same ∙ under_nothing (idle_rests i) r.under))

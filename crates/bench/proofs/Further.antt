@@ -127,17 +127,17 @@ pub record Emptied (g : Setup) (s : Bench) : Type 0 where
 
 -- a book whose open page is the empty page 0 has no page, and no slot of the volume has a valid header
 none_left : {g : Setup} (s : Bench) → Books g s.world.volume s.book → s.book.open_page ≡ empty_page 0 → Emptied g s
-none_left {g} s bk e = record { open_page = e; no_page = none-there; no_header = λ t l. go t l (s.book.slots t) refl (bk.slots t l) }
+none_left {g} s bk e = record { open_page = e; no_page = none_there; no_header = λ t l. go t l (s.book.slots t) refl (bk.slots t l) }
   where
-    none-there : (m : ℕ) → Has g s.book.slots m → ⊥
-    none-there m h =
+    none_there : (m : ℕ) → Has g s.book.slots m → ⊥
+    none_there m h =
         let here : m ≡ s.book.open_page.number = omega (arith, (bk.near m h).0, ap (λ (k : Page). k.number) e) in
         bk.open_some (subst (Has g s.book.slots) here h) (ap (λ (k : Page). k.entries) e)
 
     go : (t : ℕ) → t < g.n → (k : Option Page) → s.book.slots t ≡ k → SlotHolds g s.world.volume t k
         → header g.w g.p g.n s.world.volume t ≡ none
     go t l none i h = h
-    go t l (some k) i h = absurd (none-there k.number (has_its_number bk t k l i))
+    go t l (some k) i h = absurd (none_there k.number (has_its_number bk t k l i))
 
 -- an erase request's slot is no matter to the open page
 asked_open : (b : Book) (s : Option ℕ) → (asked b s).open_page ≡ b.open_page

@@ -26,7 +26,7 @@ use Rattle.engine_state.specs.Log.{Log}
 use Rattle.engine_call.specs.Outcome.{Lent}
 use Rattle.engine_laws.proofs.ReadRows.{length_there}
 use Rattle.bench_flash.specs.Flash.{blank_page}
-use Rattle.bench.proofs.EntryReads.{place_of, held_at, ReadsFrom, ReadsPast, Reader, Within, found_entry, reads-entry}
+use Rattle.bench.proofs.EntryReads.{place_of, held_at, ReadsFrom, ReadsPast, Reader, Within, found_entry, reads_entry}
 
 -- the bytes at the positions of page m are those of b
 pub record Shows (l : Log) (x : Lent) (m : ℕ) (b : List ℕ) : Type 0 where
@@ -103,17 +103,17 @@ module _ {l : Log} {x : Lent} (q : Reader l x) where
   -- what a page shows at an offset
   module _ {m : ℕ} {b : List ℕ} (v : Shows l x m b) (off : ℕ) (h : off < p) where
     -- one byte
-    pub shows-byte : byte_at p a x.volume x.page (m * p + off) ≡ get_or b off 0
-    shows-byte =
+    pub shows_byte : byte_at p a x.volume x.page (m * p + off) ≡ get_or b off 0
+    shows_byte =
         let z : off + 0 ≡ off = omega arith in
         sym (first_byte_at p a x.volume x.page (m * p + off) 1 (omega arith))
         ∙ ap (λ (s : List ℕ). get_or s 0 0) (v.window off 1 h (omega arith))
         ∙ get_or-take 1 (drop off b) 0 0 (omega arith) ∙ get_or-drop off b 0 0 ∙ ap (λ i. get_or b i 0) z
 
     -- one word
-    pub shows-word : off + w ≤ p → held_word w p a x.volume x.page (m * p + off) ≡ word_at w b off
+    pub shows_word : off + w ≤ p → held_word w p a x.volume x.page (m * p + off) ≡ word_at w b off
     unfolding word_at
-    shows-word room = ap le (v.window off w h room)
+    shows_word room = ap le (v.window off w h room)
 
   -- past the entries of a whole page the place is in the next one
   pub page_end : {m : ℕ} (ms : List (List ℕ)) → Shows l x m (whole_page w p m ms) → page_length w ms ≤ p
@@ -125,7 +125,7 @@ module _ {l : Log} {x : Lent} (q : Reader l x) where
       go (yes h) =
           let off : (m * p + page_length w ms) % p ≡ page_length w ms = rest_of m h refl in
           let at : (m * p + page_length w ms) / p ≡ m = page_of_lem m h refl in
-          let byte = shows-byte v (page_length w ms) h ∙ pad_at w p m ms h in
+          let byte = shows_byte v (page_length w ms) h ∙ pad_at w p m ms h in
           rw (off, ne_eqb (page_length w ms) 0 (λ z. omega (arith, f.word, z)), eq-eqb _ pad_byte byte, at)
       go (no h) =
           let off : (m * p + page_length w ms) % p ≡ 0 = rest_of (m + 1) {r = 0} f.page (omega arith) in
@@ -135,7 +135,7 @@ module _ {l : Log} {x : Lent} (q : Reader l x) where
   pub blank_length : {m : ℕ} → Shows l x m (blank_page p) → length_there l x (m * p + w) ≡ refuses FAIL
   unfolding entry_length
   blank_length {m} v =
-      let word = shows-word v w (omega (arith, f)) (omega (arith, f)) in
+      let word = shows_word v w (omega (arith, f)) (omega (arith, f)) in
       let big = blank_word w p (omega (arith, f)) in
       let off : (m * p + w) % p ≡ w = rest_of m {r = w} (omega (arith, f)) refl in
       let one = le-ltb p (w + w) (omega (arith, f)) in
@@ -156,72 +156,72 @@ module _ {l : Log} {x : Lent} (q : Reader l x) where
       abbrev rest : List ℕ
       rest = encode_all w after ++ drop (page_length w ms) v.bytes
 
-      bytes-split : v.bytes ≡ front ++ (encode w e ++ rest)
+      bytes_split : v.bytes ≡ front ++ (encode w e ++ rest)
       unfolding encode_page
-      bytes-split =
+      bytes_split =
           sym (take-append-drop (page_length w ms) v.bytes)
           ∙ ap (λ (s : List ℕ). s ++ drop (page_length w ms) v.bytes) (v.begins ∙ ap (encode_page w p m) i)
           ∙ rw (encode_all_append w before (e ∷ after)) (simp append_assoc)
 
-      its-good : Good w p e
-      its-good = good_at before after (subst (AllGood w p) i v.good)
+      its_good : Good w p e
+      its_good = good_at before after (subst (AllGood w p) i v.good)
 
       -- it lies in the page and below A
-      its-room : (off + w + length e ≤ p) × (m * p + off + w + length e ≤ a)
-      its-room =
+      its_room : (off + w + length e ≤ p) × (m * p + off + w + length e ≤ a)
+      its_room =
           let n = ap (page_length w) i in
           let k = entries_length_append w before (e ∷ after) in
           (omega (arith, v.fits), omega (arith, v.below))
 
-      its-offset : (m * p + off) % p ≡ off
-      its-offset = rest_of m (omega (arith, its-room, f.word)) refl
+      its_offset : (m * p + off) % p ≡ off
+      its_offset = rest_of m (omega (arith, its_room, f.word)) refl
 
       -- its length word, its data and its first byte, which is no padding
-      its-word : word_at w v.bytes off ≡ length e
-      its-word = rw (bytes-split, ← length_encode_page w p m before) (entry_word w front e rest (good_small q.shape.sizes.page e its-good))
+      its_word : word_at w v.bytes off ≡ length e
+      its_word = rw (bytes_split, ← length_encode_page w p m before) (entry_word w front e rest (good_small q.shape.sizes.page e its_good))
 
-      its-data : take (length e) (drop (off + w) v.bytes) ≡ e
-      its-data =
-          let small = good_small q.shape.sizes.page e its-good in
-          rw (bytes-split, ← length_encode_page w p m before) (rw (entry_word w front e rest small) at (entry_data w front e rest small))
+      its_data : take (length e) (drop (off + w) v.bytes) ≡ e
+      its_data =
+          let small = good_small q.shape.sizes.page e its_good in
+          rw (bytes_split, ← length_encode_page w p m before) (rw (entry_word w front e rest small) at (entry_data w front e rest small))
 
-      its-byte : get_or v.bytes off 0 ≡ pad_byte → ⊥
-      its-byte b =
-          let pad : get_or (front ++ (encode w e ++ rest)) (length front) 0 ≡ pad_byte = rw (bytes-split, ← length_encode_page w p m before) at b in
+      its_byte : get_or v.bytes off 0 ≡ pad_byte → ⊥
+      its_byte b =
+          let pad : get_or (front ++ (encode w e ++ rest)) (length front) 0 ≡ pad_byte = rw (bytes_split, ← length_encode_page w p m before) at b in
           let stop = stop_pad w (front ++ (encode w e ++ rest)) (length front) pad in
-          let on = entry_goes q.shape.sizes.page front e rest its-good in
+          let on = entry_goes q.shape.sizes.page front e rest its_good in
           let z : ◌≡◌ {A = ℕ} 0 1 = cc in
           omega arith
 
       -- it is found where it starts, with its length and its data
-      its-place : place_of l x (m * p + off) ≡ m * p + off
+      its_place : place_of l x (m * p + off) ≡ m * p + off
       unfolding place
-      its-place =
-          let byte = shows-byte v.shows off (omega (arith, its-room, f.word)) in
-          rw (its-offset, ne_eqb off 0 (λ z. omega (arith, f.word, z)), ne_eqb _ pad_byte (λ b. its-byte (sym byte ∙ b)))
+      its_place =
+          let byte = shows_byte v.shows off (omega (arith, its_room, f.word)) in
+          rw (its_offset, ne_eqb off 0 (λ z. omega (arith, f.word, z)), ne_eqb _ pad_byte (λ b. its_byte (sym byte ∙ b)))
 
-      its-length : length_there l x (m * p + off) ≡ gives (length e)
+      its_length : length_there l x (m * p + off) ≡ gives (length e)
       unfolding entry_length
-      its-length =
-          let word = shows-word v.shows off (omega (arith, its-room, f.word)) (omega (arith, its-room)) ∙ its-word in
-          let one = le-ltb p (off + w) (omega (arith, its-room)) in
-          let two = ne_eqb (length e) 0 (λ z. omega (arith, its-good.not_empty, z)) in
-          let three = le-ltb (p - 2 * w) (length e) (omega (arith, its-good.fits)) in
-          let four = le-ltb p (off + w + length e) its-room.0 in
-          rw (word, its-offset, one, two, three, four)
+      its_length =
+          let word = shows_word v.shows off (omega (arith, its_room, f.word)) (omega (arith, its_room)) ∙ its_word in
+          let one = le-ltb p (off + w) (omega (arith, its_room)) in
+          let two = ne_eqb (length e) 0 (λ z. omega (arith, its_good.not_empty, z)) in
+          let three = le-ltb (p - 2 * w) (length e) (omega (arith, its_good.fits)) in
+          let four = le-ltb p (off + w + length e) its_room.0 in
+          rw (word, its_offset, one, two, three, four)
 
-      its-bytes : held_at l x (m * p + off + w) (length e) ≡ e
-      its-bytes =
+      its_bytes : held_at l x (m * p + off + w) (length e) ≡ e
+      its_bytes =
           let z : m * p + (off + w) ≡ m * p + off + w = omega arith in
-          rw z at (v.shows.window (off + w) (length e) (omega (arith, its-room, its-good.not_empty)) (omega (arith, its-room)) ∙ its-data)
+          rw z at (v.shows.window (off + w) (length e) (omega (arith, its_room, its_good.not_empty)) (omega (arith, its_room)) ∙ its_data)
 
       -- so it is read, and reading goes on past it
-      its-read : {r kept : ℕ} {es : List (List ℕ)} → Within l r kept → place_of l x r ≡ m * p + off
+      its_read : {r kept : ℕ} {es : List (List ℕ)} → Within l r kept → place_of l x r ≡ m * p + off
           → ReadsPast l x (m * p + off + w + length e) es → ReadsFrom l x r kept (e ∷ es)
-      its-read {r} {kept} u at on =
-          let next : Within l (m * p + off + w + length e) (length e) = record { read = its-room.1; kept = omega (arith, its-good.fits) } in
-          let there = found_entry l x r kept at (omega (arith, its-room, f.word)) its-length (omega (arith, its-good.fits)) in
-          reads-entry q u there its-bytes next (on (length e) next)
+      its_read {r} {kept} u at on =
+          let next : Within l (m * p + off + w + length e) (length e) = record { read = its_room.1; kept = omega (arith, its_good.fits) } in
+          let there = found_entry l x r kept at (omega (arith, its_room, f.word)) its_length (omega (arith, its_good.fits)) in
+          reads_entry q u there its_bytes next (on (length e) next)
 
     -- where the read ID stands before the last entries of the page: at the first of them, or at the page's end
     abbrev Before : List (List ℕ) → List (List ℕ) → ℕ → Type 0
@@ -237,29 +237,29 @@ module _ {l : Log} {x : Lent} (q : Reader l x) where
     stands before e (e' ∷ after) i =
         let n = entries_length_append w before (e ∷ []) in
         let end : m * p + page_length w before + w + length e ≡ m * p + page_length w (before ++ (e ∷ [])) = omega arith in
-        ap (place_of l x) end ∙ its-place (before ++ (e ∷ [])) e' after i
+        ap (place_of l x) end ∙ its_place (before ++ (e ∷ [])) e' after i
 
     -- the last entries of the page are read, and then what follows it
-    entries-read : (before after : List (List ℕ)) {r kept : ℕ} {es : List (List ℕ)} → ms ≡ before ++ after
+    entries_read : (before after : List (List ℕ)) {r kept : ℕ} {es : List (List ℕ)} → ms ≡ before ++ after
         → Within l r kept → Before before after r → ReadsPast l x (m * p + page_length w ms) es → ReadsFrom l x r kept (after ++ es)
-    entries-read before [] {kept = kept} i u at on = rw at (on kept (rw at at u))
-    entries-read before (e ∷ after) i u at on =
+    entries_read before [] {kept = kept} i u at on = rw at (on kept (rw at at u))
+    entries_read before (e ∷ after) i u at on =
         let i' = i ∙ sym (append_assoc before (e ∷ []) after) in
-        its-read before e after i u at (λ k next. entries-read (before ++ (e ∷ [])) after i' next (stands before e after i') on)
+        its_read before e after i u at (λ k next. entries_read (before ++ (e ∷ [])) after i' next (stands before e after i') on)
 
     module _ (filled : ms ≡ [] → ⊥) where
       -- a page that has an entry is found at its first
-      pub page-place : place_of l x (m * p + w) ≡ m * p + w
-      page-place = go ms refl
+      pub page_place : place_of l x (m * p + w) ≡ m * p + w
+      page_place = go ms refl
         where
           go : (xs : List (List ℕ)) → ms ≡ xs → place_of l x (m * p + w) ≡ m * p + w
           go [] i = absurd (filled i)
-          go (e ∷ es) i = let z : w + 0 ≡ w = omega arith in rw z at (its-place [] e es i)
+          go (e ∷ es) i = let z : w + 0 ≡ w = omega arith in rw z at (its_place [] e es i)
 
       -- from there on all its entries are read, and then what follows it
-      pub page-read : {r kept : ℕ} {es : List (List ℕ)} → Within l r kept → place_of l x r ≡ m * p + w
+      pub page_read : {r kept : ℕ} {es : List (List ℕ)} → Within l r kept → place_of l x r ≡ m * p + w
           → ReadsPast l x (m * p + page_length w ms) es → ReadsFrom l x r kept (ms ++ es)
-      page-read {r} u at on = entries-read [] ms refl u (go ms filled) on
+      page_read {r} u at on = entries_read [] ms refl u (go ms filled) on
         where
           go : (xs : List (List ℕ)) → (xs ≡ [] → ⊥) → Before [] xs r
           go [] h = absurd (h refl)

@@ -230,13 +230,13 @@ writing_keeps {g} {x} {b} v {s} e c = go x.power v.powered
     Same : Step → Type 0
     Same y = (y.world.page ≡ x.page) × (y.world.operation ≡ writing s)
 
-    busy-same : (x.operation ≡ no_operation) ⊎ Busy x.log.state → Same (step_on g x (event.call c))
-    busy-same (inl n) = let z : ◌≡◌ {A = ℕ} 0 1 = cc in absurd (omega arith)
-    busy-same (inr i) =
+    busy_same : (x.operation ≡ no_operation) ⊎ Busy x.log.state → Same (step_on g x (event.call c))
+    busy_same (inl n) = let z : ◌≡◌ {A = ℕ} 0 1 = cc in absurd (omega arith)
+    busy_same (inr i) =
         let d = busy_still x.log (lent_by x) i c in
         let starts : Request → Operation = λ (q : Request). under_way x.operation q (call_word c) g.first in
         (ap (λ (d : Done). d.page) d.is, ap (λ (d : Done). starts d.outcome.request) d.is ∙ no_start x.operation (call_word c) g.first ∙ e)
 
     go : (p : Bool) → Powered g x b p → Same (pick p (step_on g x (event.call c)) (step_off g x (event.call c)))
-    go true r = busy-same (under_busy r.under)
+    go true r = busy_same (under_busy r.under)
     go false n = (refl, e)

@@ -29,7 +29,7 @@ use Rattle.bench.proofs.BookPages.{HeadersPages, empty, some_pages, one_page, no
 use Rattle.bench.proofs.Appends.{last_open}
 use Rattle.bench.proofs.RestartKeeps.{has_its_number, slot_holds, has_none, has_near, Recovers}
 use Rattle.bench.proofs.EntryReads.{place_of, found_from, ReadsFrom, Reader, Within, found_broken, found_past, place_from, reads_end}
-use Rattle.bench.proofs.PageReads.{Shows, shows_buffer, shows_volume, Paged, page_end, blank_length, page-place, page-read}
+use Rattle.bench.proofs.PageReads.{Shows, shows_buffer, shows_volume, Paged, page_end, blank_length, page_place, page_read}
 
 -- the book's pages, one after the other
 module _ (g : Setup) (slots : ℕ → Option Page) where
@@ -117,11 +117,11 @@ module _ {x : World} {b : Book} (q : Recovers x.log.setup x b) (client : x.log.r
     abbrev ms : List (List ℕ)
     ms = h.page.entries
 
-    has-holds : HoldsPage g x.volume (slot_of g.n m) h.page
-    has-holds = slot_holds bk (slot_of g.n m) h.page (mod-lt m f.count) h.there
+    has_holds : HoldsPage g x.volume (slot_of g.n m) h.page
+    has_holds = slot_holds bk (slot_of g.n m) h.page (mod-lt m f.count) h.there
 
-    has-bytes : slot_bytes p (slot_of g.n m) x.volume ≡ whole_page w p m ms
-    has-bytes = has-holds.bytes ∙ ap (λ i. whole_page w p i ms) h.number
+    has_bytes : slot_bytes p (slot_of g.n m) x.volume ≡ whole_page w p m ms
+    has_bytes = has_holds.bytes ∙ ap (λ i. whole_page w p i ms) h.number
 
     -- it is read from its slot, or from the page buffer if it is the open page
     paged : Paged l lent m ms
@@ -131,10 +131,10 @@ module _ {x : World} {b : Book} (q : Recovers x.log.setup x b) (client : x.log.r
         go (yes u) = record {
           bytes = slot_bytes p (slot_of g.n m) x.volume;
           shows = shows_old m u;
-          begins = ap (take (page_length w ms)) has-bytes ∙ begins_whole w p m ms;
-          good = has-holds.good;
-          fits = has-holds.fits;
-          below = omega (arith, has-holds.fits, old_below m u);
+          begins = ap (take (page_length w ms)) has_bytes ∙ begins_whole w p m ms;
+          good = has_holds.good;
+          fits = has_holds.fits;
+          below = omega (arith, has_holds.fits, old_below m u);
         }
         go (no u) =
             let i : m ≡ k.number = omega (arith, (bk.near m h).0) in
@@ -143,34 +143,34 @@ module _ {x : World} {b : Book} (q : Recovers x.log.setup x b) (client : x.log.r
               bytes = x.page;
               shows = shows_buffer reader m (i ∙ sym open_page_is);
               begins = rw (e, i) q.running.buffer.begins;
-              good = has-holds.good;
-              fits = has-holds.fits;
+              good = has_holds.good;
+              fits = has_holds.fits;
               below = rw (e, i) (omega (arith, ends_at));
             }
 
     -- past a page before the open page the place is in the next one
-    old-end : m < k.number → place_of l lent (m * p + page_length w ms) ≡ (m + 1) * p + w
-    old-end u = page_end reader ms (subst (Shows l lent m) has-bytes (shows_old m u)) has-holds.fits
+    old_end : m < k.number → place_of l lent (m * p + page_length w ms) ≡ (m + 1) * p + w
+    old_end u = page_end reader ms (subst (Shows l lent m) has_bytes (shows_old m u)) has_holds.fits
 
     -- where the book doesn't have the next page, nothing is found past this one
-    none-next : (Has g b.slots (m + 1) → ⊥) → (kept : ℕ) → found_from l lent (m * p + page_length w ms) kept ≡ no_entry FAIL
-    none-next d kept = go (dec_lt m k.number) (dec_lt (m + 1) k.number)
+    none_next : (Has g b.slots (m + 1) → ⊥) → (kept : ℕ) → found_from l lent (m * p + page_length w ms) kept ≡ no_entry FAIL
+    none_next d kept = go (dec_lt m k.number) (dec_lt (m + 1) k.number)
       where
         r : ℕ
         r = m * p + page_length w ms
 
-        blank-next : m < k.number → m + 1 < k.number → HasOrBlank g x.volume b.slots (m + 1) → found_from l lent r kept ≡ no_entry FAIL
-        blank-next u v (inl y) = absurd (d y)
-        blank-next u v (inr y) =
-            found_broken l lent r kept (old-end u) (omega (arith, f, old_below (m + 1) v))
+        blank_next : m < k.number → m + 1 < k.number → HasOrBlank g x.volume b.slots (m + 1) → found_from l lent r kept ≡ no_entry FAIL
+        blank_next u v (inl y) = absurd (d y)
+        blank_next u v (inr y) =
+            found_broken l lent r kept (old_end u) (omega (arith, f, old_below (m + 1) v))
             (blank_length reader (subst (Shows l lent (m + 1)) y (shows_old (m + 1) v)))
 
         go : Dec (m < k.number) → Dec (m + 1 < k.number) → found_from l lent r kept ≡ no_entry FAIL
-        go (yes u) (yes v) = blank-next u v (bk.gaps m h (m + 1) (omega arith) v)
+        go (yes u) (yes v) = blank_next u v (bk.gaps m h (m + 1) (omega arith) v)
         go (yes u) (no v) =
             let i : m + 1 ≡ k.number = omega arith in
             let e : k.entries ≡ [] = q.open_none (λ y. d (subst (Has g b.slots) (sym i) y)) in
-            found_past l lent r kept (omega (arith, old-end u, ends_at, ap (page_length w) e, ap (λ n. n * p) i))
+            found_past l lent r kept (omega (arith, old_end u, ends_at, ap (page_length w) e, ap (λ n. n * p) i))
         go (no u) v =
             let i : m ≡ k.number = omega (arith, (bk.near m h).0) in
             let e : ms ≡ k.entries = q.open_is m h i in
@@ -183,15 +183,15 @@ module _ {x : World} {b : Book} (q : Recovers x.log.setup x b) (client : x.log.r
   has_read : (more m : ℕ) → Has g b.slots m → (Has g b.slots (m + 1) → ReadsPages more (m + 1)) → ReadsPages (suc more) m
   has_read more m h next r kept u at =
       rw (entries_has g b.slots more m h)
-      (page-read reader (paged m h) (has-holds m h).some_entry u at (λ kept' v. go kept' v (has? g b.slots (m + 1))))
+      (page_read reader (paged m h) (has_holds m h).some_entry u at (λ kept' v. go kept' v (has? g b.slots (m + 1))))
     where
       end : ℕ
       end = m * p + page_length w h.page.entries
 
       go : (kept' : ℕ) → Within l end kept' → Dec (Has g b.slots (m + 1))
           → ReadsFrom l lent end kept' (entries_from g.n b.slots more (m + 1))
-      go kept' v (yes y) = next y end kept' v (old-end m h (omega (arith, (bk.near (m + 1) y).0)))
-      go kept' v (no d) = rw (entries_none g b.slots more (m + 1) d) (reads_end reader v (none-next m h d kept'))
+      go kept' v (yes y) = next y end kept' v (old_end m h (omega (arith, (bk.near (m + 1) y).0)))
+      go kept' v (no d) = rw (entries_none g b.slots more (m + 1) d) (reads_end reader v (none_next m h d kept'))
 
   -- no more than so many
   pages_read : (more m : ℕ) → Has g b.slots m → ((j : ℕ) → Has g b.slots j → j < m + suc more) → ReadsPages (suc more) m
@@ -215,7 +215,7 @@ module _ {x : World} {b : Book} (q : Recovers x.log.setup x b) (client : x.log.r
       go low i (some_pages {a = m} el eg bot top) =
           let h : Has g b.slots m = subst (Has g b.slots) bot.number (has_its_number bk bot.slot bot.page bot.below bot.is) in
           let n : g.n ≡ suc (g.n - 1) = omega (arith, f.count) in
-          let at = ap (place_of l lent) i ∙ page-place reader (paged m h) (has-holds m h).some_entry in
+          let at = ap (place_of l lent) i ∙ page_place reader (paged m h) (has_holds m h).some_entry in
           subst (λ more. ReadsFrom l lent l.oldest l.kept (entries_from g.n b.slots more m)) (sym n)
           (pages_read (g.n - 1) m h (λ j y. omega (arith, n, has_near bk m j h y)) l.oldest l.kept within at)
 

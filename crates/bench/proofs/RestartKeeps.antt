@@ -149,11 +149,11 @@ module _ {g : Setup} (y : World) {b : Book} (bk : Books g y.volume b) (r : Resta
     its : HoldsPage g y.volume t.slot k
     its = slot_holds bk t.slot k t.below t.is
 
-    has-newest : Has g b.slots k.number
-    has-newest = has_its_number bk t.slot k t.below t.is
+    has_newest : Has g b.slots k.number
+    has_newest = has_its_number bk t.slot k t.below t.is
 
-    has-least : Has g b.slots a
-    has-least = rw u.number at (has_its_number bk u.slot u.page u.below u.is)
+    has_least : Has g b.slots a
+    has_least = rw u.number at (has_its_number bk u.slot u.page u.below u.is)
 
     -- a page that may be opened next: the newest, or an empty one after it
     record Opens (j : Page) : Type 0 where
@@ -167,31 +167,31 @@ module _ {g : Setup} (y : World) {b : Book} (bk : Books g y.volume b) (r : Resta
 
     -- a restart that opens_after it
     module _ (j : Page) (o : Opens j) where
-      newest-old : k.number ≤ b.open_page.number
-      newest-old = (bk.near k.number has-newest).0
+      newest_old : k.number ≤ b.open_page.number
+      newest_old = (bk.near k.number has_newest).0
 
       near : (m : ℕ) → Has g b.slots m → Near g j m
-      near m h = (omega (arith, has_top bk t m h, o.from), omega (arith, has_near bk m k.number h has-newest, o.to))
+      near m h = (omega (arith, has_top bk t m h, o.from), omega (arith, has_near bk m k.number h has_newest, o.to))
 
       gap : (m : ℕ) → Has g b.slots m → (i : ℕ) → m ≤ i → i < j.number → HasOrBlank g y.volume b.slots i
       gap m h i l v = go (dec_lt i k.number)
         where
           go : Dec (i < k.number) → HasOrBlank g y.volume b.slots i
-          go (yes d) = bk.gaps m h i l (omega (arith, newest-old))
-          go (no d) = let z : k.number ≡ i = omega (arith, o.to) in inl (rw z at has-newest)
+          go (yes d) = bk.gaps m h i l (omega (arith, newest_old))
+          go (no d) = let z : k.number ≡ i = omega (arith, o.to) in inl (rw z at has_newest)
 
       -- the book has the page only if it is the newest
-      at-newest : (m : ℕ) → Has g b.slots m → m ≡ j.number → j.number ≡ k.number
-      at-newest m h e = omega (arith, has_top bk t m h, o.from)
+      at_newest : (m : ℕ) → Has g b.slots m → m ≡ j.number → j.number ≡ k.number
+      at_newest m h e = omega (arith, has_top bk t m h, o.from)
 
-      its-entries : (m : ℕ) (h : Has g b.slots m) → m ≡ j.number → h.page.entries ≡ j.entries
-      its-entries m h e =
-          let at : b.slots (slot_of g.n m) ≡ some k = rw (e ∙ at-newest m h e, its.slot) t.is in
-          ap (λ (i : Page). i.entries) (one_page h.there at) ∙ sym (o.same (at-newest m h e))
+      its_entries : (m : ℕ) (h : Has g b.slots m) → m ≡ j.number → h.page.entries ≡ j.entries
+      its_entries m h e =
+          let at : b.slots (slot_of g.n m) ≡ some k = rw (e ∙ at_newest m h e, its.slot) t.is in
+          ap (λ (i : Page). i.entries) (one_page h.there at) ∙ sym (o.same (at_newest m h e))
 
-      found-open : {append : ℕ} {page : List ℕ} → recovered g (k.number * g.p) y.volume r.page ≡ recovered_of append page
+      found_open : {append : ℕ} {page : List ℕ} → recovered g (k.number * g.p) y.volume r.page ≡ recovered_of append page
           → Buffered g page append j → Recovers g (world_by (done (some ids))) (with_open b j)
-      found-open {append} {page} e buffered =
+      found_open {append} {page} e buffered =
           let rec : recovered g ids.greatest y.volume r.page ≡ recovered_of append page = rw eg e in
           record {
             books = record {
@@ -204,42 +204,42 @@ module _ {g : Setup} (y : World) {b : Book} (bk : Books g y.volume b) (r : Resta
               slots = bk.slots;
               near = near;
               gaps = gap;
-              open_some = λ h z. its.some_entry (sym (o.same (at-newest j.number h refl)) ∙ z);
+              open_some = λ h z. its.some_entry (sym (o.same (at_newest j.number h refl)) ∙ z);
             };
             running = record {
               setup = refl;
               hold_length = lengths.held;
               fits = fit _ refl;
               buffer = rw rec buffered;
-              oldest = record { page = a; first = ap (λ (i : ℕ). i + g.w) el; near = near a has-least; live = λ m h. inl (has_bottom bk u m h) };
+              oldest = record { page = a; first = ap (λ (i : ℕ). i + g.w) el; near = near a has_least; live = λ m h. inl (has_bottom bk u m h) };
               under = idle;
             };
             at_rest = refl;
             read = refl;
             oldest = rw low (ap (λ (i : ℕ). i + g.w) el);
-            open_is = its-entries;
-            open_none = λ h. o.other (λ z. h (rw (sym z) at has-newest));
+            open_is = its_entries;
+            open_none = λ h. o.other (λ z. h (rw (sym z) at has_newest));
             open_zero = λ z. let c : ◌≡◌ {A = ℕ} 0 1 = cc in absurd (omega arith);
           }
 
     -- the newest page alone, and where its walk ends
-    newest-is : newest_page g (k.number * g.p) y.volume ≡ whole_page g.w g.p k.number k.entries
-    newest-is =
+    newest_is : newest_page g (k.number * g.p) y.volume ≡ whole_page g.w g.p k.number k.entries
+    newest_is =
         let q : k.number * g.p / g.p ≡ k.number = mul-div_cancel k.number sizes.page in
         ap (λ i. slot_bytes g.p (slot_of g.n i) y.volume) q ∙ ap (λ s. slot_bytes g.p s y.volume) its.slot ∙ its.bytes
 
-    newest-walk : walked g.w (newest_page g (k.number * g.p) y.volume) ≡ page_length g.w k.entries
-    newest-walk = ap (walked g.w) newest-is ∙ walked_page bk.sizes.page k.number k.entries its.good
+    newest_walk : walked g.w (newest_page g (k.number * g.p) y.volume) ≡ page_length g.w k.entries
+    newest_walk = ap (walked g.w) newest_is ∙ walked_page bk.sizes.page k.number k.entries its.good
 
     abbrev end : ℕ
     end = walked_id g (k.number * g.p) y.volume
 
     -- a restart that keeps the newest page open
-    found-kept : opens_after g (k.number * g.p) y.volume ≡ false → Recovers g (world_by (done (some ids))) (with_open b k)
-    found-kept not-next =
-        found-open k
+    found_kept : opens_after g (k.number * g.p) y.volume ≡ false → Recovers g (world_by (done (some ids))) (with_open b k)
+    found_kept not-next =
+        found_open k
         (record {
-          ok = allowed_below g (bk.near k.number has-newest).0 bk.open_allowed;
+          ok = allowed_below g (bk.near k.number has_newest).0 bk.open_allowed;
           fits = its.fits;
           good = its.good;
           from = omega arith;
@@ -248,21 +248,21 @@ module _ {g : Setup} (y : World) {b : Book} (bk : Books g y.volume b) (r : Resta
           other = λ z. absurd (z refl);
         })
         (recovers_kept g _ _ r.page not-next)
-        (buffered_whole newest-is its.fits (ap (λ n. k.number * g.p + n) newest-walk))
+        (buffered_whole newest_is its.fits (ap (λ n. k.number * g.p + n) newest_walk))
 
     -- where the newest page is full, the next is opened where the book allows it
     module _ (full : page_length g.w k.entries ≡ g.p) where
-      next-end : end ≡ first_id g.p (k.number + 1)
-      next-end = ap (λ n. k.number * g.p + n) newest-walk ∙ omega arith
+      next_end : end ≡ first_id g.p (k.number + 1)
+      next_end = ap (λ n. k.number * g.p + n) newest_walk ∙ omega arith
 
       may_next : may_open g end ≡ allowed g (k.number + 1)
-      may_next = ap (may_open g) next-end ∙ may_allowed g bk.sizes (k.number + 1)
+      may_next = ap (may_open g) next_end ∙ may_allowed g bk.sizes (k.number + 1)
 
       -- a restart that opens_after it
-      found-next : allowed g (k.number + 1) ≡ true → Recovers g (world_by (done (some ids))) (with_open b (empty_page (k.number + 1)))
-      found-next may =
-          let up = ap (round_up g.p) next-end ∙ round_first _ sizes.page (mul-mod_left (k.number + 1) g.p) in
-          found-open (empty_page (k.number + 1))
+      found_next : allowed g (k.number + 1) ≡ true → Recovers g (world_by (done (some ids))) (with_open b (empty_page (k.number + 1)))
+      found_next may =
+          let up = ap (round_up g.p) next_end ∙ round_first _ sizes.page (mul-mod_left (k.number + 1) g.p) in
+          found_open (empty_page (k.number + 1))
           (record {
             ok = may;
             fits = omega (arith, sizes);
@@ -272,7 +272,7 @@ module _ {g : Setup} (y : World) {b : Book} (bk : Books g y.volume b) (r : Resta
             same = λ z. absurd (omega arith);
             other = λ z. refl;
           })
-          (recovers_opened g _ _ r.page (newest-walk ∙ full) (may_next ∙ may))
+          (recovers_opened g _ _ r.page (newest_walk ∙ full) (may_next ∙ may))
           (buffered_opened g bk.sizes end (k.number + 1) up r.page lengths.buffer)
 
     -- a restart with some page in the book
@@ -281,9 +281,9 @@ module _ {g : Setup} (y : World) {b : Book} (bk : Books g y.volume b) (r : Resta
       where
         go : (c : Bool) → fills g k ≡ c → (d : Bool) → allowed g (k.number + 1) ≡ d
             → Recovers g (world_by (done (some ids))) (with_open b (pick c (pick d (empty_page (k.number + 1)) k) k))
-        go true q true v = found-next (eqb-true _ _ q) v
-        go true q false v = found-kept (opens_not g _ _ r.page (may_next (eqb-true _ _ q) ∙ v))
-        go false q d v = found-kept (opens_partial g _ _ r.page (λ z. eqb-false _ _ q (sym newest-walk ∙ z)))
+        go true q true v = found_next (eqb-true _ _ q) v
+        go true q false v = found_kept (opens_not g _ _ r.page (may_next (eqb-true _ _ q) ∙ v))
+        go false q d v = found_kept (opens_partial g _ _ r.page (λ z. eqb-false _ _ q (sym newest_walk ∙ z)))
 
   -- after a restart that isn't refused, the log is where the book says
   pub restored : Recovers g (world_by (done (headers g y.volume))) (with_open b (reopened g (newest (pages g.n b.slots))))

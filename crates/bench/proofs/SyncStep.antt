@@ -18,7 +18,7 @@ use Rattle.bench.specs.Book.{Book, recorded}
 use Rattle.bench.proofs.Invariant.{SomeEntry, Books, sync, Running, After}
 use Rattle.bench.proofs.Quiet.{refused_inv}
 use Rattle.bench.proofs.Appends.{offset_empty}
-use Rattle.bench.proofs.Flushes.{flush-accepted, flush-refused}
+use Rattle.bench.proofs.Flushes.{flush_accepted, flush_refused}
 
 module _ {x : World} {b : Book} (bk : Books x.log.setup x.volume b) (r : Running x.log.setup x b) where
   abbrev g : Setup
@@ -31,9 +31,9 @@ module _ {x : World} {b : Book} (bk : Books x.log.setup x.volume b) (r : Running
   -- a flush, where something is to be written
   flush_keeps : (word : Word) → SomeEntry b.open_page → x.log.state ≡ Idle → Kept word (flush x.log (lent_by x) Sync x.log.kept word)
   unfolding flush recorded
-  flush_keeps ok e i fits = flush-accepted bk r Sync x.log.kept x.hold r.hold_length e b.waiting fits (λ writes. sync writes)
-  flush_keeps busy e i fits = flush-refused bk r Sync x.log.kept x.hold r.hold_length e busy refl refl i fits
-  flush_keeps fail e i fits = flush-refused bk r Sync x.log.kept x.hold r.hold_length e fail refl refl i fits
+  flush_keeps ok e i fits = flush_accepted bk r Sync x.log.kept x.hold r.hold_length e b.waiting fits (λ writes. sync writes)
+  flush_keeps busy e i fits = flush_refused bk r Sync x.log.kept x.hold r.hold_length e busy refl refl i fits
+  flush_keeps fail e i fits = flush_refused bk r Sync x.log.kept x.hold r.hold_length e fail refl refl i fits
 
   -- the event sync keeps the invariant
   pub sync_step : (word : Word) → After g b (call (calls.sync word)) (step_on g x (call (calls.sync word)))

@@ -152,13 +152,13 @@ pub further : (g : Setup) (l : Log) (volume page hold : List ℕ) → NoHeader g
     → (r : Restart) → let s : Bench = stepped_all g (start l volume page hold) es in
     Promised g (restart r) (step g s.world (restart r)).told.answer (stepped g s (restart r))
 further g l volume page hold none-valid es clear r =
-    last (start l volume page hold) es (promise g l volume page hold none-valid (es ++ (restart r ∷ [])) (more-clear (start l volume page hold) es clear))
+    last (start l volume page hold) es (promise g l volume page hold none-valid (es ++ (restart r ∷ [])) (more_clear (start l volume page hold) es clear))
   where
     last : (s : Bench) (es : List Event) → AllPromised g s (es ++ (restart r ∷ [])) → let s' : Bench = stepped_all g s es in
         Promised g (restart r) (step g s'.world (restart r)).told.answer (stepped g s' (restart r))
     last s [] h = h.0
     last s (e ∷ es) h = last (stepped g s e) es h.1
 
-    more-clear : (s : Bench) (es : List Event) → AllClear g s es → AllClear g s (es ++ (restart r ∷ []))
-    more-clear s [] c = (tt, tt)
-    more-clear s (e ∷ es) c = (c.0, more-clear (stepped g s e) es c.1)
+    more_clear : (s : Bench) (es : List Event) → AllClear g s es → AllClear g s (es ++ (restart r ∷ []))
+    more_clear s [] c = (tt, tt)
+    more_clear s (e ∷ es) c = (c.0, more_clear (stepped g s e) es c.1)

@@ -27,8 +27,8 @@ use Rattle.bench.specs.World.{World, wrote}
 use Rattle.bench.specs.Book.{Book, allowed, fills, left_in, recorded}
 use Rattle.bench.proofs.Invariant.{Books, Writes, Waits, idle, sync, Running, Inv}
 use Rattle.bench.proofs.BookSteps.{books_ended, books_join}
-use Rattle.bench.proofs.Appends.{longer, next_first, offset_open, offset_empty, may_next, stored-buffer, joined_oldest}
-use Rattle.bench.proofs.WrittenKeeps.{Ends, lent_then, rested, left-inv, written-live, opened-books, opened-buffer, opened-oldest}
+use Rattle.bench.proofs.Appends.{longer, next_first, offset_open, offset_empty, may_next, stored_buffer, joined_oldest}
+use Rattle.bench.proofs.WrittenKeeps.{Ends, lent_then, rested, left_inv, written_live, opened_books, opened_buffer, opened_oldest}
 
 module _ {x : World} {b : Book} (bk : Books x.log.setup x.volume b) (r : Running x.log.setup x b)
     (wr : Writes x.log.setup x.page b.open_page r.oldest.page) where
@@ -54,7 +54,7 @@ module _ {x : World} {b : Book} (bk : Books x.log.setup x.volume b) (r : Running
   rests : (left : Left) (kept : ℕ) → state_fits (moved x.log Idle x.log.oldest x.log.read x.log.append kept) ≡ true
       → Inv g (rested bk r (after_end g.p op x.page left x.volume) kept) (left_in g.n b (wrote left))
   rests left kept fits =
-      left-inv bk r kept fits (slot_of g.n k) (some b.open_page) (written-live bk r wr) left
+      left_inv bk r kept fits (slot_of g.n k) (some b.open_page) (written_live bk r wr) left
       (books_ended {hold = x.hold} {kept = kept} bk (sync wr) left)
 
   -- a failed write of an append
@@ -73,8 +73,8 @@ module _ {x : World} {b : Book} (bk : Books x.log.setup x.volume b) (r : Running
   unfolding store recorded
   stored_ends left wa clear fits =
       let e : List ℕ = b.waiting in
-      let bk' = opened-books bk r wr wa.next in
-      let u = opened-buffer bk r wr in
+      let bk' = opened_books bk r wr wa.next in
+      let u = opened_buffer bk r wr in
       let offset : opened_id g x.log.append % g.p ≡ g.w = offset_empty bk' u refl in
       let good : Good g.w g.p e = record { not_empty = wa.some_byte; fits = wa.fits; not_zero = clear.0; not_pad = clear.1 } in
       rw wa.next (record {
@@ -83,8 +83,8 @@ module _ {x : World} {b : Book} (bk : Books x.log.setup x.volume b) (r : Running
           setup = refl;
           hold_length = r.hold_length;
           fits = fits;
-          buffer = stored-buffer bk' u e (omega (arith, offset, facts bk.sizes)) (omega (arith, offset, wa.fits));
-          oldest = joined_oldest (opened-oldest bk r wr) e;
+          buffer = stored_buffer bk' u e (omega (arith, offset, facts bk.sizes)) (omega (arith, offset, wa.fits));
+          oldest = joined_oldest (opened_oldest bk r wr) e;
           under = idle;
         };
       })
@@ -131,13 +131,13 @@ module _ {x : World} {b : Book} (bk : Books x.log.setup x.volume b) (r : Running
       go : (c : Bool) → fills g b.open_page ≡ c → (d : Bool) → allowed g (k + 1) ≡ d → Synced (c && d)
       go true full true may clear fits =
           rw (full, may) (record {
-            books = opened-books bk r wr may;
+            books = opened_books bk r wr may;
             powered = record {
               setup = refl;
               hold_length = r.hold_length;
               fits = fits;
-              buffer = opened-buffer bk r wr;
-              oldest = opened-oldest bk r wr;
+              buffer = opened_buffer bk r wr;
+              oldest = opened_oldest bk r wr;
               under = idle;
             };
           })

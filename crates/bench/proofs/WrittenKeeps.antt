@@ -89,9 +89,9 @@ module _ {x : World} {b : Book} (bk : Books x.log.setup x.volume b) (r : Running
   with_slots slots = record { slots = slots; open_page = b.open_page; waiting = b.waiting; erase_slot = b.erase_slot }
 
   module _ {volume : List ℕ} (kept : ℕ) (fits : state_fits (rested volume kept).log ≡ true) where
-    rest-inv : (slots : ℕ → Option Page) → Books g volume (with_slots slots) → ((m : ℕ) → Has g slots m → Live g b.open_page r.oldest.page m)
+    rest_inv : (slots : ℕ → Option Page) → Books g volume (with_slots slots) → ((m : ℕ) → Has g slots m → Live g b.open_page r.oldest.page m)
         → Inv g (rested volume kept) (with_slots slots)
-    rest-inv slots bk' live = record {
+    rest_inv slots bk' live = record {
       books = bk';
       powered = record {
         setup = refl;
@@ -104,11 +104,11 @@ module _ {x : World} {b : Book} (bk : Books x.log.setup x.volume b) (r : Running
     }
 
     -- by what the operation left in its slot
-    pub left-inv : (s : ℕ) (y : Option Page) → ((m : ℕ) → Has g (in_book b.slots s y) m → Live g b.open_page r.oldest.page m) → (left : Left)
+    pub left_inv : (s : ℕ) (y : Option Page) → ((m : ℕ) → Has g (in_book b.slots s y) m → Live g b.open_page r.oldest.page m) → (left : Left)
         → Books g volume (slot_left b s y left) → Inv g (rested volume kept) (slot_left b s y left)
-    left-inv s y live old bk' = rest-inv b.slots bk' r.oldest.live
-    left-inv s y live blank bk' = rest-inv (in_book b.slots s none) bk' (λ m h. r.oldest.live m (has_left g b.slots s m h).0)
-    left-inv s y live new bk' = rest-inv (in_book b.slots s y) bk' live
+    left_inv s y live old bk' = rest_inv b.slots bk' r.oldest.live
+    left_inv s y live blank bk' = rest_inv (in_book b.slots s none) bk' (λ m h. r.oldest.live m (has_left g b.slots s m h).0)
+    left_inv s y live new bk' = rest_inv (in_book b.slots s y) bk' live
 
   -- a write is under way
   module _ (wr : Writes g x.page b.open_page r.oldest.page) where
@@ -120,35 +120,35 @@ module _ {x : World} {b : Book} (bk : Books x.log.setup x.volume b) (r : Running
     written = in_book b.slots slot (some b.open_page)
 
     -- every page is the one written, or lies in another slot, less than N before the next
-    written-near : (m : ℕ) → Has g written m → (r.oldest.page ≤ m) × (k + 1 ≤ m + g.n)
-    written-near m h = go (has_put g b.slots slot m b.open_page h)
+    written_near : (m : ℕ) → Has g written m → (r.oldest.page ≤ m) × (k + 1 ≤ m + g.n)
+    written_near m h = go (has_put g b.slots slot m b.open_page h)
       where
-        by-live : (slot_of g.n m ≡ slot → ⊥) → Live g b.open_page r.oldest.page m → (r.oldest.page ≤ m) × (k + 1 ≤ m + g.n)
-        by-live d (inl l) = (l, omega (arith, l, wr.room))
-        by-live d (inr (e, q)) = absurd (d (sym (add-mod_right m g.n) ∙ ap (slot_of g.n) e))
+        by_live : (slot_of g.n m ≡ slot → ⊥) → Live g b.open_page r.oldest.page m → (r.oldest.page ≤ m) × (k + 1 ≤ m + g.n)
+        by_live d (inl l) = (l, omega (arith, l, wr.room))
+        by_live d (inr (e, q)) = absurd (d (sym (add-mod_right m g.n) ∙ ap (slot_of g.n) e))
 
         go : (m ≡ k) ⊎ Elsewhere g b.slots slot m → (r.oldest.page ≤ m) × (k + 1 ≤ m + g.n)
         go (inl e) = (omega (arith, e, r.oldest.near.0), omega (arith, e, (facts bk.sizes).count))
-        go (inr (i, d)) = by-live d (r.oldest.live m i)
+        go (inr (i, d)) = by_live d (r.oldest.live m i)
 
     -- so it is live
-    pub written-live : (m : ℕ) → Has g written m → Live g b.open_page r.oldest.page m
-    written-live m h = inl (written-near m h).0
+    pub written_live : (m : ℕ) → Has g written m → Live g b.open_page r.oldest.page m
+    written_live m h = inl (written_near m h).0
 
     -- the next page, opened
-    pub opened-books : allowed g (k + 1) ≡ true → Books g (in_slot g.p slot x.page x.volume) (with_open (with_slots written) (empty_page (k + 1)))
-    opened-books may =
+    pub opened_books : allowed g (k + 1) ≡ true → Books g (in_slot g.p slot x.page x.volume) (with_open (with_slots written) (empty_page (k + 1)))
+    opened_books may =
         books_next (books_new bk wr.some_entry x.page wr.bytes) may
-        (record { page = b.open_page; there = slot_same b.slots slot (some b.open_page); number = refl }) (λ m h. (written-near m h).1)
+        (record { page = b.open_page; there = slot_same b.slots slot (some b.open_page); number = refl }) (λ m h. (written_near m h).1)
 
-    pub opened-buffer : Buffered g (opened_page g x.log.append x.page) (opened_id g x.log.append) (empty_page (k + 1))
-    opened-buffer =
+    pub opened_buffer : Buffered g (opened_page g x.log.append x.page) (opened_id g x.log.append) (empty_page (k + 1))
+    opened_buffer =
         buffered_opened g bk.sizes x.log.append (k + 1) (append_round bk r.buffer wr.some_entry) x.page r.buffer.page_length_lem
 
-    pub opened-oldest : Oldest g x.log.oldest written (empty_page (k + 1))
-    opened-oldest = record {
+    pub opened_oldest : Oldest g x.log.oldest written (empty_page (k + 1))
+    opened_oldest = record {
       page = r.oldest.page;
       first = r.oldest.first;
       near = (omega (arith, r.oldest.near.0), omega (arith, wr.room));
-      live = λ m h. inl (written-near m h).0;
+      live = λ m h. inl (written_near m h).0;
     }

@@ -116,6 +116,6 @@ list_runs {g} {es} {left} {append_client} x {f} {x'} {out} {out'} fit r v p h =
     let whole : length end.world.volume ≡ length x.volume = ap (λ (k : Lent). length k.volume) (sym r.lent) ∙ v in
     let a = again_answers g append_client left s.world (rw (whole, p, h) fit) in
     list_ran fit r
-    (λ no_Header clear.
+    (λ no_header clear.
     subst (λ (k : Setup). Finds k end → MatchesBook k end f (length out) out') a.setup (λ q. matches end q a.client r)
-    (further g (unstarted g) x.volume x.page x.hold no_Header es clear (in_place left true append_client s.world) a.ok))
+    (further g (unstarted g) x.volume x.page x.hold no_header es clear (in_place left true append_client s.world) a.ok))

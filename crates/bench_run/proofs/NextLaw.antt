@@ -17,7 +17,7 @@ use Rattle.engine_state.specs.Log.{Log}
 use Rattle.engine_state.proofs.Checks.{shape_fits_lem}
 use Rattle.page_lookup.specs.Held.{bytes_at}
 use Rattle.page_lookup.proofs.Helds.{lent}
-use Rattle.page_lookup.proofs.Lengths.{lengthy, length-data}
+use Rattle.page_lookup.proofs.Lengths.{lengthy, length_data}
 use Rattle.engine_call.specs.Outcome.{Lent, Done}
 use Rattle.engine_call.proofs.Checks.{through}
 use Rattle.engine_read.specs.Read.{read, read_buffer}
@@ -71,7 +71,7 @@ entry_given x l room ok =
     let f = facts s.sizes in
     let long = lengthy _ p _ _ _ _ y.header in
     let bytes : List ℕ = bytes_at p l.append x.volume x.page (y.id + l.setup.w) y.size in
-    let size : length bytes ≡ y.size = length-data (lent s.sizes x.volume x.page s.whole s.buffer (omega arith)) l.append y.id long in
+    let size : length bytes ≡ y.size = length_data (lent s.sizes x.volume x.page s.whole s.buffer (omega arith)) l.append y.id long in
     let fits : length bytes ≤ room = omega (arith, n, y.fits, size, ltb-false (length zeros) p t.1.1.1.0) in
     let kept : (reading x l room).outcome.log.kept ≡ length bytes =
     ap (λ k. (read l x k p).outcome.log.kept) (sym n) ∙ ap (λ (d : Done). d.outcome.log.kept) y.done ∙ sym size in
@@ -90,18 +90,18 @@ module _ (x : Lent) (l : Log) (out : List ℕ) where
   module _ {bytes' : List ℕ} {d : Done} (h : Roomy l.setup (length out))
       (c : (d ≡ read l x (length rest) l.setup.p) × (bytes' ≡ read_buffer l x rest l.setup.p)) where
     -- a read that isn't answered OK
-    pub next-stops : (d.outcome.answer ≡ OK → ⊥) → NextRead x l out (put_mid w (length out - w) out bytes') (next_ends d.outcome.answer)
-    next-stops bad =
+    pub next_stops : (d.outcome.answer ≡ OK → ⊥) → NextRead x l out (put_mid w (length out - w) out bytes') (next_ends d.outcome.answer)
+    next_stops bad =
         let answer = ap (λ (d : Done). d.outcome.answer) c.0 in
         let room : length rest ≡ length out - w = ap length (rest_lent w out) ∙ length-drop w out in
         no_more h (answer ∙ ap (λ k. (read l x k l.setup.p).outcome.answer) room) bad
         (ap (put_mid w (length out - w) out) (c.1 ∙ unread l x rest l.setup.p (λ q. bad (answer ∙ q))) ∙ put_same w (length out - w) out)
 
     -- a read that is answered OK, with the entry's length before it
-    pub next-reads : d.outcome.answer ≡ OK → out ≡ replicate (length out) 0 → {next : Log} {out' : List ℕ} → next ≡ afterwards x d.outcome.log
+    pub next_reads : d.outcome.answer ≡ OK → out ≡ replicate (length out) 0 → {next : Log} {out' : List ℕ} → next ≡ afterwards x d.outcome.log
         → out' ≡ overwrite (put_mid w (length out - w) out bytes') 0 (word_bytes w d.outcome.log.kept)
         → NextRead x l out out' (next_entry_read next d.outcome.log.kept)
-    next-reads q z a f =
+    next_reads q z a f =
         let room = length out - w in
         let zeros : rest ≡ replicate room 0 = rest_lent w out ∙ ap (drop w) z ∙ drop_zeros w (length out) (omega arith) in
         let said : d ≡ reading x l room = c.0 ∙ ap (λ k. read l x k l.setup.p) (ap length zeros ∙ length-replicate room 0) in

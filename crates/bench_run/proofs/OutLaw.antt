@@ -71,25 +71,25 @@ module _ {w : ℕ} {x : Lent} where
     abbrev rest : List ℕ
     rest = mid_of at (length out - at) out
 
-    rest-zeros : rest ≡ replicate (n - at) 0
-    rest-zeros = rest_lent at out ∙ rw (s.leaves, s.total) (laid_rest w n s.entries)
+    rest_zeros : rest ≡ replicate (n - at) 0
+    rest_zeros = rest_lent at out ∙ rw (s.leaves, s.total) (laid_rest w n s.entries)
 
-    rest-room : length rest ≡ n - at
-    rest-room = ap length rest-zeros ∙ length-replicate (n - at) 0
+    rest_room : length rest ≡ n - at
+    rest_room = ap length rest_zeros ∙ length-replicate (n - at) 0
 
-    pub sofar-zeros : rest ≡ replicate (length rest) 0
-    sofar-zeros = rest-zeros ∙ ap (λ k. replicate k 0) (sym rest-room)
+    pub sofar_zeros : rest ≡ replicate (length rest) 0
+    sofar_zeros = rest_zeros ∙ ap (λ k. replicate k 0) (sym rest_room)
 
     -- an entry more
-    pub sofar-goes : {part' : List ℕ} {next : code.Log} {size : ℕ} → Width w → NextRead x (log_of w current) rest part' (next_entry_read (log_of w next) size)
+    pub sofar_goes : {part' : List ℕ} {next : code.Log} {size : ℕ} → Width w → NextRead x (log_of w current) rest part' (next_entry_read (log_of w next) size)
         → ReadSofar w x l n (put_mid at (length out - at) out part') next (count + 1) (at + (w + size))
-    sofar-goes {part'} {next} {size} v (one_more h ok log long f) =
+    sofar_goes {part'} {next} {size} v (one_more h ok log long f) =
         let e : List ℕ = entry_read x (log_of w current) (length rest - w) in
         let g = entry_given x (log_of w current) (length rest - w) ok in
         let total : at + (w + size) ≡ entries_length w (s.entries ++ (e ∷ [])) = omega (arith, s.total, long, entries_length_append w s.entries (e ∷ [])) in
-        let fits : at + (w + size) ≤ n = omega (arith, s.fits, h, long, g.fits, rest-room) in
+        let fits : at + (w + size) ≤ n = omega (arith, s.fits, h, long, g.fits, rest_room) in
         let leaves : put_mid at (length out - at) out part' ≡ laid w n (s.entries ++ (e ∷ [])) =
-        rest_back at out part' ∙ laid_more w n s.entries e s.total s.leaves (f ∙ ap (λ k. laid w k (e ∷ [])) rest-room) in
+        rest_back at out part' ∙ laid_more w n s.entries e s.total s.leaves (f ∙ ap (λ k. laid w k (e ∷ [])) rest_room) in
         record {
           entries = s.entries ++ (e ∷ []);
           number = omega (arith, s.number, length-append s.entries (e ∷ []));
@@ -100,17 +100,17 @@ module _ {w : ℕ} {x : Lent} where
           size = ap length leaves ∙ length_laid w n (s.entries ++ (e ∷ [])) (omega arith);
           leaves = leaves;
           onward = λ es whole r.
-              let k : n - (at + (w + size)) ≡ length rest - (w + length e) = omega (arith, long, rest-room) in
-              let q = subst (λ m. ReadsOut x (log_of w current) m (e ∷ es) whole) rest-room (out_goes h ok (rw (k, log) at r)) in
+              let k : n - (at + (w + size)) ≡ length rest - (w + length e) = omega (arith, long, rest_room) in
+              let q = subst (λ m. ReadsOut x (log_of w current) m (e ∷ es) whole) rest_room (out_goes h ok (rw (k, log) at r)) in
               rw (append_assoc s.entries (e ∷ []) es) (s.onward (e ∷ es) whole q);
         }
 
   -- no entry more
   module _ {l current : code.Log} {begun out part' : List ℕ} {count at : ℕ} (s : ReadSofar w x l (length begun) out current count at) where
-    sofar-ends : {whole : Bool} → ReadsOut x (log_of w current) (length (rest s)) [] whole → part' ≡ rest s
+    sofar_ends : {whole : Bool} → ReadsOut x (log_of w current) (length (rest s)) [] whole → part' ≡ rest s
         → ReadOut x (log_of w l) count at whole begun (put_mid at (length out - at) out part')
-    sofar-ends {whole} r e =
-        let r : ReadsOut x (log_of w current) (length begun - at) [] whole = subst (λ k. ReadsOut x (log_of w current) k [] whole) (rest-room s) r in
+    sofar_ends {whole} r e =
+        let r : ReadsOut x (log_of w current) (length begun - at) [] whole = subst (λ k. ReadsOut x (log_of w current) k [] whole) (rest_room s) r in
         record {
           entries = s.entries;
           reads = rw append-nil at (s.onward [] whole r);
@@ -120,9 +120,10 @@ module _ {w : ℕ} {x : Lent} where
         }
 
     -- for want of room, or by an answer
-    pub sofar-full : NextRead x (log_of w current) (rest s) part' next_full → ReadOut x (log_of w l) count at false begun (put_mid at (length out - at) out part')
-    sofar-full (no_room_left h e) = sofar-ends (out_full h) e
+    pub sofar_full : NextRead x (log_of w current) (rest s) part' next_full
+        → ReadOut x (log_of w l) count at false begun (put_mid at (length out - at) out part')
+    sofar_full (no_room_left h e) = sofar_ends (out_full h) e
 
-    pub sofar-stops : {a : ℕ} {whole : Bool} → whole ≡ eqb a FAIL → NextRead x (log_of w current) (rest s) part' (next_ends a)
+    pub sofar_stops : {a : ℕ} {whole : Bool} → whole ≡ eqb a FAIL → NextRead x (log_of w current) (rest s) part' (next_ends a)
         → ReadOut x (log_of w l) count at whole begun (put_mid at (length out - at) out part')
-    sofar-stops t (no_more h e n q) = sofar-ends (rw (t, e) (out_ends h (λ k. n (e ∙ k)))) q
+    sofar_stops t (no_more h e n q) = sofar_ends (rw (t, e) (out_ends h (λ k. n (e ∙ k)))) q

@@ -43,17 +43,17 @@ module _ {g : Setup} {list : List ℕ} {x : Lent} where
 
   module _ {room : ℕ} {y : World} {out : List ℕ} {at : ℕ} (u : Upto g list x room y out at) where
     -- the shape fits as at the start
-    pub upto-fits : shape_fits g (length x.volume) (length x.page) (length x.hold) ≡ true
+    pub upto_fits : shape_fits g (length x.volume) (length x.page) (length x.hold) ≡ true
         → shape_fits g (length y.volume) (length y.page) (length y.hold) ≡ true
-    upto-fits fit = rw (u.volume_same, u.page_same, u.hold_same) fit
+    upto_fits fit = rw (u.volume_same, u.page_same, u.hold_same) fit
 
     -- an event more, with its own bytes beside it
-    pub upto-goes : (z : Step) (e : Event) {rest : List ℕ} {size : ℕ} {out' : List ℕ} → rest ≡ drop at list → Whole rest size
+    pub upto_goes : (z : Step) (e : Event) {rest : List ℕ} {size : ℕ} {out' : List ℕ} → rest ≡ drop at list → Whole rest size
         → e ≡ event_from (get_or rest 0 0) (get_or rest 1 0) (word_at 8 rest 2) (take (size - 14) (drop 14 rest)) (length out) → z ≡ step g y e
         → length z.world.volume ≡ length y.volume → length z.world.page ≡ length y.page → length z.world.hold ≡ length y.hold
         → length out' ≡ length out → Upto g list x room z.world out' (at + size)
     unfolding event_size event_at
-    upto-goes z e {rest} {size} r c q d v p h b =
+    upto_goes z e {rest} {size} r c q d v p h b =
         let here : Event = event_at room (drop at list) in
         let k : size - 14 ≡ word_at 4 rest 10 = omega (arith, c.is) in
         let own : e ≡ event_at (length out) rest =
@@ -76,7 +76,7 @@ module _ {g : Setup} {list : List ℕ} {x : Lent} where
         on n = decode room 0 (drop (at + n) list)
 
     -- no event more
-    pub upto-ends : {rest : List ℕ} → rest ≡ drop at list → holds_event rest ≡ false → y ≡ (after g (listed room list) x).world
-    upto-ends r c =
+    pub upto_ends : {rest : List ℕ} → rest ≡ drop at list → holds_event rest ≡ false → y ≡ (after g (listed room list) x).world
+    upto_ends r c =
         let no-event = decode_none room (drop at list) (ap holds_event (sym r) ∙ c) in
         ap (λ (s : Bench). s.world) (sym (u.onward ∙ ap (stepped_all g (record { world = y; book = u.book })) no-event))

@@ -99,11 +99,13 @@ twice : {A B : Type 0} {a : A} {b : B} → (a ≡ a) × (b ≡ b)
 twice = (refl, refl)
 
 pub cases : Cases
-unfolding gate_by first_of shape_fits sizes_fit state_fits kept_fits fits_page append_runs store flush overwritten_page overwritten moved_oldest moved_read filled
+unfolding gate_by first_of shape_fits sizes_fit state_fits kept_fits fits_page append_runs store flush overwritten_page overwritten moved_oldest
+    moved_read filled
     write_runs append_written may_open
 cases = record { restarts = restart.cases; most = twice; two = twice; full = twice; twenty = twice; pads = twice; sync = twice; lap = twice; plain = refl }
 
 pub cases_8 : Cases8
-unfolding gate_by first_of shape_fits sizes_fit state_fits kept_fits fits_page append_runs store flush overwritten_page overwritten moved_oldest moved_read filled
+unfolding gate_by first_of shape_fits sizes_fit state_fits kept_fits fits_page append_runs store flush overwritten_page overwritten moved_oldest
+    moved_read filled
     write_runs append_written may_open
 cases_8 = record { restarts = restart.cases_8; most = twice; two = twice; full = twice; forty = twice; pads = twice; sync = twice; lap = twice; plain = refl }

@@ -61,13 +61,13 @@ pub write_fits : (l : Log) → Sized l.setup → StateFits l → (x : Lent) (goo
 unfolding write_runs append_written sync_written kept_fits
 write_fits l z s x good k =
     by_pick LeavesState (is l.state Append)
-    (λ a. by_pick LeavesState good (λ g. by_pick LeavesState (opens_next l) stored (λ o. not-stored)) (λ g. not-stored))
+    (λ a. by_pick LeavesState good (λ g. by_pick LeavesState (opens_next l) stored (λ o. not_stored_lem)) (λ g. not_stored_lem))
     (λ a. by_pick LeavesState good (λ g. by_pick LeavesState (eqb (l.append % l.setup.p) 0 && opens_next l)
     (λ e. state_set (opened_fits l z s (both (eqb (l.append % l.setup.p) 0) (opens_next l) e).1) Idle refl) (λ e. state_set s Idle refl))
     (λ g. state_set s Idle refl))
   where
-    not-stored : StateFits (moved l Idle l.oldest l.read l.append 0)
-    not-stored = moved_fits s Idle (oldest_kept s) l.read 0 s.read_limited (omega arith) refl
+    not_stored_lem : StateFits (moved l Idle l.oldest l.read l.append 0)
+    not_stored_lem = moved_fits s Idle (oldest_kept s) l.read 0 s.read_limited (omega arith) refl
 
     stored : opens_next l ≡ true → LeavesState (store (opened l) (opened_in l x) (take l.kept x.hold))
     stored h =

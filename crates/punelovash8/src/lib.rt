@@ -1,4 +1,4 @@
-// The board with 8-byte words, for C and Rust: the functions of `punelovash_block` at that width, exported by name.
+// The board with 8-byte words: the functions of `punelovash_block` at that width. The library for C, `punelovash8_c`, exports them by name.
 #![tactic(auto)]
 
 pub mod calls;

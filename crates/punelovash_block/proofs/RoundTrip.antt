@@ -15,7 +15,8 @@ use Rattle.page.proofs.Overwrites.{stores_overwrite, length_overwrite, overwrite
 use Rattle.page.proofs.Words.{word_at_suc, word_at_zero, word_at_written, length_word_bytes}
 use Rattle.engine_state.specs.Log.{Setup, State, Idle, Read, Seek, Append, Sync, Erase, Log, state_number}
 use Rattle.engine_call.specs.Outcome.{Outcome}
-use Rattle.punelovash_block.specs.Block.{page_size_at, page_count_at, first_page_at, flags_at, state_at, oldest_at, read_at, append_at, kept_at, report_at, lost_at}
+use Rattle.punelovash_block.specs.Block.{page_size_at, page_count_at, first_page_at, flags_at, state_at, oldest_at, read_at, append_at, kept_at}
+use Rattle.punelovash_block.specs.Block.{report_at, lost_at}
 use Rattle.punelovash_block.specs.Block.{result_at, request_at, length_at, flash_page_at, block_size, state_from, flags, setup_at, log_at, loaded}
 use Rattle.punelovash_block.specs.Block.{report_numbers, request_kind, request_page, at, saved, sized}
 use Rattle.punelovash_block.proofs.Blocks.{loaded_tests}

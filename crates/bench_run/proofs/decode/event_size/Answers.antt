@@ -27,6 +27,7 @@ returns-then-list-size c =
 
 pub returns : goal.returns
 returns c =
+    let after_read_four = (goal.at.returns c).After-read_four in
     let list = c.args.list.now in
     let fits : 14 + c.read_four.result ≤ length list = omega arith in
-    rw (is_complete list (omega (arith, size (goal.at.returns c).After-read_four))) (size (goal.at.returns c).After-read_four)
+    rw (is_complete list (omega (arith, size after_read_four))) (size after_read_four)

@@ -3,7 +3,7 @@ use mathlib.Core.Path.{ap}
 use native.Mathlib.Omega.{arith}
 use lib.Dec.{eqb}
 use Rattle.page.specs.Answered.{FAIL}
-use Rattle.bench_run.proofs.OutLaw.{sofar_starts, sofar-zeros, sofar-goes, sofar-full, sofar-stops}
+use Rattle.bench_run.proofs.OutLaw.{sofar_starts, sofar_zeros, sofar_goes, sofar_full, sofar_stops}
 use Rattle.bench_run.proofs.entries.read_out.Goals as goal
 
 pub loop-whole-init : goal.loop-whole-init
@@ -18,7 +18,7 @@ slice_bounds-read_next-start c = omega (arith, c.loop-whole.invariant.fits, c.lo
 
 pub read_next-requires : goal.read_next-requires
 read_next-requires c =
-    (c.requires.0, sofar-zeros c.loop-whole.invariant)
+    (c.requires.0, sofar_zeros c.loop-whole.invariant)
 
 pub shape_of-out-in-Full : goal.shape_of-out-in-Full
 shape_of-out-in-Full c =
@@ -26,7 +26,7 @@ shape_of-out-in-Full c =
 
 pub returns-in-Full : goal.returns-in-Full
 returns-in-Full c =
-    sofar-full c.loop-whole.invariant (rw c.in-Full.is at c.read_next.ensures)
+    sofar_full c.loop-whole.invariant (rw c.in-Full.is at c.read_next.ensures)
 
 pub shape_of-out-in-End : goal.shape_of-out-in-End
 shape_of-out-in-End c =
@@ -35,11 +35,11 @@ shape_of-out-in-End c =
 pub returns-in-End : goal.returns-in-End
 returns-in-End c =
     let whole = ap (λ a. eqb a FAIL) c.answer_number-whole.ensures in
-    sofar-stops c.loop-whole.invariant whole (rw c.in-End.is at c.read_next.ensures)
+    sofar_stops c.loop-whole.invariant whole (rw c.in-End.is at c.read_next.ensures)
 
 pub loop-whole-preserved : goal.loop-whole-preserved
 loop-whole-preserved c =
-    sofar-goes c.loop-whole.invariant c.requires.0 (rw c.in-Entry.is at c.read_next.ensures)
+    sofar_goes c.loop-whole.invariant c.requires.0 (rw c.in-Entry.is at c.read_next.ensures)
 
 pub overflow_add-count : goal.overflow_add-count
 overflow_add-count c = let s = loop-whole-preserved c in omega (arith, s.few, s.fits, s.short)

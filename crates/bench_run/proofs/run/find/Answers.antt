@@ -25,8 +25,9 @@ read_out-read-requires c =
 
 pub returns : goal.returns
 returns c book begun long =
-    let k = (cut_of (goal.at.returns c).After-restart-done).cut-off in
-    let a = (start (goal.at.returns c).After-restart-done).args in
+    let after_restart = (goal.at.returns c).After-restart-done in
+    let k = (cut_of after_restart).cut-off in
+    let a = (start after_restart).args in
     let g : Setup = given_setup a.setup in
     let x : World = world_of g a.world a.page.now a.hold.now a.volume.now in
     let volume = k.new.volume in

@@ -3,7 +3,7 @@ use native.Mathlib.Omega.{arith}
 use borrow.Author.Rules.{part_to_end}
 use Rattle.bench_step.specs.Step.{given_setup, step_of}
 use Rattle.bench_run.proofs.Lists.{size_none, size_found}
-use Rattle.bench_run.proofs.Running.{upto_starts, upto-fits, upto-goes, upto-ends}
+use Rattle.bench_run.proofs.Running.{upto_starts, upto_fits, upto_goes, upto_ends}
 use Rattle.bench_run.proofs.run.run_list.Goals as goal
 
 pub loop-rest-init : goal.loop-rest-init
@@ -30,7 +30,7 @@ shape_of-out-then-size-eq0 c = c.loop-rest.invariant.out_same
 pub returns-then-size-eq0 : goal.returns-then-size-eq0
 returns-then-size-eq0 c =
     let l = c.loop-rest in
-    upto-ends l.invariant (part_to_end c.args.list.now l.at) (size_none _ _ c.event_size-size.ensures c.if-size-eq0.true)
+    upto_ends l.invariant (part_to_end c.args.list.now l.at) (size_none _ _ c.event_size-size.ensures c.if-size-eq0.true)
 
 pub event-event-requires : goal.event-event-requires
 event-event-requires c = let f = size_found _ _ c.event_size-size.ensures c.if-size-eq0.false in omega (arith, f.head, f.fits)
@@ -46,14 +46,14 @@ slice_bounds-bytes-end c = let f = size_found _ _ c.event_size-size.ensures c.if
 
 pub step-done-requires : goal.step-done-requires
 step-done-requires c =
-    upto-fits c.loop-rest.invariant c.requires
+    upto_fits c.loop-rest.invariant c.requires
 
 pub loop-rest-preserved : goal.loop-rest-preserved
 loop-rest-preserved c =
     let l = c.loop-rest in
     let kept = c.step-done.auto in
     let after = c.step-done.new in
-    upto-goes l.invariant (step_of (given_setup c.args.setup) c.step-done.result after.page after.hold after.volume) _ (part_to_end c.args.list.now l.at)
+    upto_goes l.invariant (step_of (given_setup c.args.setup) c.step-done.result after.page after.hold after.volume) _ (part_to_end c.args.list.now l.at)
     (size_found _ _ c.event_size-size.ensures c.if-size-eq0.false) (c.event-event.ensures _ _) c.step-done.ensures.0
     kept.volume kept.page kept.hold kept.out
 

@@ -7,7 +7,8 @@ use Rattle.bench_run.proofs.Running.{Upto}
 use Rattle.bench_run.proofs.run.run_list.Given as goal
 
 abbrev pub invariant-loop-rest : goal.invariant-loop-rest
-invariant-loop-rest l = Upto (given_setup l.setup) l.list (lend l.initial.volume l.initial.page l.initial.hold) (length l.initial.out) (world_of (given_setup l.setup) l.world l.page l.hold l.volume) l.out l.at
+invariant-loop-rest l = Upto (given_setup l.setup) l.list (lend l.initial.volume l.initial.page l.initial.hold) (length l.initial.out)
+    (world_of (given_setup l.setup) l.world l.page l.hold l.volume) l.out l.at
 
 abbrev pub decreases-loop-rest : goal.decreases-loop-rest
 decreases-loop-rest l = length l.list - l.at

@@ -22,8 +22,10 @@ event s = events.cut (left_of s.args.left)
 
 pub returns-then-world : goal.returns-then-world
 returns-then-world c hold =
-    c.end.ensures hold ∙ sym (on (setup (goal.at.returns-then-world c).Start) (world (goal.at.returns-then-world c).Start hold) (event (goal.at.returns-then-world c).Start) c.if-world.true)
+    let start = (goal.at.returns-then-world c).Start in
+    c.end.ensures hold ∙ sym (on (setup start) (world start hold) (event start) c.if-world.true)
 
 pub returns : goal.returns
 returns c hold =
-    c.undelivered.ensures (setup (goal.at.returns c).Start) _ hold _ ∙ sym (off (setup (goal.at.returns c).Start) (world (goal.at.returns c).Start hold) (event (goal.at.returns c).Start) c.if-world.false)
+    let start = (goal.at.returns c).Start in
+    c.undelivered.ensures (setup start) _ hold _ ∙ sym (off (setup start) (world start hold) (event start) c.if-world.false)

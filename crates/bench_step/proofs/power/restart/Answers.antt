@@ -28,10 +28,12 @@ given c is = sym c.restart-answer.ensures ∙ ap (λ k. restart_done_of (setup (
 
 pub returns-in-Shape : goal.returns-in-Shape
 returns-in-Shape c left =
-    let s = start (goal.at.returns-in-Shape c).After-restart-answer in
-    let is = given (goal.at.returns-in-Shape c).After-restart-answer c.in-Shape.is in
+    let after_restart = (goal.at.returns-in-Shape c).After-restart-answer in
+    let s = start after_restart in
+    let is = given after_restart c.in-Shape.is in
     rw (is, refused_keeps (setup s) s.args.read_client s.args.append_client (lent s) is) (c.refused.ensures (setup s) _ _ _)
 
 pub returns-in-Log : goal.returns-in-Log
 returns-in-Log c left =
-    rw (given (goal.at.returns-in-Log c).After-restart-answer c.in-Log.is) (c.at_rest.ensures (setup (start (goal.at.returns-in-Log c).After-restart-answer)) _ _ _)
+    let after_restart = (goal.at.returns-in-Log c).After-restart-answer in
+    rw (given after_restart c.in-Log.is) (c.at_rest.ensures (setup (start after_restart)) _ _ _)

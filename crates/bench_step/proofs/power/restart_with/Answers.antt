@@ -45,9 +45,10 @@ fits c = rw c.cut-off.auto.volume (start c).requires
 pub returns-then-size-page : goal.returns-then-size-page
 unfolding recovery.restart
 returns-then-size-page c =
-    let s = start (goal.at.returns-then-size-page c).After-cut-off in
-    let shaped = unlike (setup s) _ _ _ s.args.restart.size s.args.bytes.now (fits (goal.at.returns-then-size-page c).After-cut-off) (λ p b. c.if-size-page.true p) in
-    restarted (goal.at.returns-then-size-page c).After-cut-off (rw shaped (c.refused.ensures (setup s) _ _ _))
+    let after_cut = (goal.at.returns-then-size-page c).After-cut-off in
+    let s = start after_cut in
+    let shaped = unlike (setup s) _ _ _ s.args.restart.size s.args.bytes.now (fits after_cut) (λ p b. c.if-size-page.true p) in
+    restarted after_cut (rw shaped (c.refused.ensures (setup s) _ _ _))
 
 pub overflow_add-page : goal.overflow_add-page
 overflow_add-page c =
@@ -58,9 +59,10 @@ overflow_add-page c =
 pub returns-then-bytes-page : goal.returns-then-bytes-page
 unfolding recovery.restart
 returns-then-bytes-page c =
-    let s = start (goal.at.returns-then-bytes-page c).After-cut-off in
-    let shaped = unlike (setup s) _ _ _ s.args.restart.size s.args.bytes.now (fits (goal.at.returns-then-bytes-page c).After-cut-off) (λ p b. c.if-bytes-page.true b) in
-    restarted (goal.at.returns-then-bytes-page c).After-cut-off (rw shaped (c.refused-then-bytes-page.ensures (setup s) _ _ _))
+    let after_cut = (goal.at.returns-then-bytes-page c).After-cut-off in
+    let s = start after_cut in
+    let shaped = unlike (setup s) _ _ _ s.args.restart.size s.args.bytes.now (fits after_cut) (λ p b. c.if-bytes-page.true b) in
+    restarted after_cut (rw shaped (c.refused-then-bytes-page.ensures (setup s) _ _ _))
 
 pub slice_bounds-copy_page-end : goal.slice_bounds-copy_page-end
 slice_bounds-copy_page-end c = simp length-take (omega arith)
@@ -74,10 +76,11 @@ shape_of-volume c =
 
 pub returns : goal.returns
 returns c =
-    let s = start (goal.at.returns c).After-cut-off in
+    let after_cut = (goal.at.returns c).After-cut-off in
+    let s = start after_cut in
     let a = s.args in
-    let shaped = alike (setup s) _ _ _ a.restart.size a.bytes.now (fits (goal.at.returns c).After-cut-off) c.if-size-page.false c.if-bytes-page.false in
+    let shaped = alike (setup s) _ _ _ a.restart.size a.bytes.now (fits after_cut) c.if-size-page.false c.if-bytes-page.false in
     let hold = c.copy_page-2.ensures ∙ part_to_end a.bytes.now a.restart.size in
-    restarted (goal.at.returns c).After-cut-off
-    (starts_anew (setup s) (over (goal.at.returns c).After-cut-off).world (over (goal.at.returns c).After-cut-off).told (restart s) shaped c.copy_page.ensures hold
+    restarted after_cut
+    (starts_anew (setup s) (over after_cut).world (over after_cut).told (restart s) shaped c.copy_page.ensures hold
     (c.restart.ensures (restart s).left))

@@ -23,14 +23,16 @@ event s = events.call (call_of s.args.call s.args.bytes.now (length s.args.out.n
 
 pub returns-then-not-world : goal.returns-then-not-world
 returns-then-not-world c =
+    let start = (goal.at.returns-then-not-world c).Start in
     let power : c.args.world.power ≡ false = not-true _ c.if-not-world.true in
-    (c.undelivered.ensures (setup (goal.at.returns-then-not-world c).Start) _ _ _ ∙ sym (off (setup (goal.at.returns-then-not-world c).Start) (world (goal.at.returns-then-not-world c).Start) (event (goal.at.returns-then-not-world c).Start) power), rw power)
+    (c.undelivered.ensures (setup start) _ _ _ ∙ sym (off (setup start) (world start) (event start) power), rw power)
 
 pub returns : goal.returns
 returns c =
+    let start = (goal.at.returns c).Start in
     let a = c.args in
     let power : a.world.power ≡ true = not-false _ c.if-not-world.false in
     let given = c.call-given.ensures in
     let word = c.call_word-word.ensures ∙ word_alone a.call a.bytes.now (length a.out.now) in
     let told = c.delivered.ensures a.page.now a.hold.now a.volume.now _ _ in
-    (rw (on (setup (goal.at.returns c).Start) (world (goal.at.returns c).Start) (event (goal.at.returns c).Start) power, ← given.0, ← word) told, rw power given.1)
+    (rw (on (setup start) (world start) (event start) power, ← given.0, ← word) told, rw power given.1)

@@ -46,27 +46,34 @@ stray c =
 
 pub returns-then-not-world : goal.returns-then-not-world
 returns-then-not-world c =
-    c.undelivered-nothing.ensures (setup (goal.at.returns-then-not-world c).Start) _ _ _ ∙ sym (off (setup (goal.at.returns-then-not-world c).Start) (world (goal.at.returns-then-not-world c).Start) (event (goal.at.returns-then-not-world c).Start) (not-true _ c.if-not-world.true))
+    let start' = (goal.at.returns-then-not-world c).Start in
+    c.undelivered-nothing.ensures (setup start') _ _ _ ∙ sym (off (setup start') (world start') (event start') (not-true _ c.if-not-world.true))
 
 pub returns-then-ends : goal.returns-then-ends
 returns-then-ends c =
-    let s = start (goal.at.returns-then-ends c).Else-not-world in
+    let else_not_world = (goal.at.returns-then-ends c).Else-not-world in
+    let s = start else_not_world in
     let a = s.args in
     let over : Step = step_of (setup s) c.end-over.result a.page.now a.hold.now c.end-over.new.volume in
     let due : ends (completion s) (world s).operation ≡ true = sym c.ends.ensures ∙ c.if-ends.true in
     let well = c.left_after-leaves.ensures ∙ ap (λ (t : Bool). left_after t (left_of a.left)) c.ends_well.ensures in
-    powered (goal.at.returns-then-ends c).Else-not-world
-    (comes_due (setup s) (world s) (completion s) (left_of a.left) (left_of c.left_after-leaves.result) over (not-false _ c.if-not-world.false) due well (c.end-over.ensures _)
+    powered else_not_world
+    (comes_due (setup s) (world s) (completion s) (left_of a.left) (left_of c.left_after-leaves.result) over (not-false _ c.if-not-world.false) due
+    well (c.end-over.ensures _)
     c.complete.ensures)
 
 pub returns-then-not-is_stray : goal.returns-then-not-is_stray
 returns-then-not-is_stray c =
+    let else_not_world = (goal.at.returns-then-not-is_stray c).Else-not-world in
+    let else_ends = (goal.at.returns-then-not-is_stray c).Else-ends in
     let no = sym (stray (goal.at.returns-then-not-is_stray c).After-is_stray) ∙ c.if-not-is_stray.true in
-    powered (goal.at.returns-then-not-is_stray c).Else-not-world (rw (other (goal.at.returns-then-not-is_stray c).Else-ends, no) (c.undelivered-nothing.ensures (setup (start (goal.at.returns-then-not-is_stray c).Else-not-world)) _ _ _))
+    powered else_not_world (rw (other else_ends, no) (c.undelivered-nothing.ensures (setup (start else_not_world)) _ _ _))
 
 pub returns : goal.returns
 returns c =
-    let s = start (goal.at.returns c).Else-not-world in
+    let else_not_world = (goal.at.returns c).Else-not-world in
+    let else_ends = (goal.at.returns c).Else-ends in
+    let s = start else_not_world in
     let yes = sym (stray (goal.at.returns c).After-is_stray) ∙ c.if-not-is_stray.false in
     let still = c.undelivered-nothing.ensures (setup s) s.args.page.now s.args.hold.now s.args.volume.now in
-    powered (goal.at.returns c).Else-not-world (rw (other (goal.at.returns c).Else-ends, yes) (c.complete-2.ensures ∙ ap (λ (o : Step). comes (setup s) o (completion s)) still))
+    powered else_not_world (rw (other else_ends, yes) (c.complete-2.ensures ∙ ap (λ (o : Step). comes (setup s) o (completion s)) still))

@@ -56,7 +56,9 @@ returns-then-page_len-geometry c =
 pub returns-then-not-shape_fits : goal.returns-then-not-shape_fits
 unfolding misfit_by
 returns-then-not-shape_fits c =
-    rw (long (goal.at.returns-then-not-shape_fits c).Else-block-block_size, shaped (goal.at.returns-then-not-shape_fits c).After-shape_fits (c.if-not-shape_fits.true))
+    let else_block_block_size = (goal.at.returns-then-not-shape_fits c).Else-block-block_size in
+    let after_shape_fits = (goal.at.returns-then-not-shape_fits c).After-shape_fits in
+    rw (long else_block_block_size, shaped after_shape_fits (c.if-not-shape_fits.true))
 
 pub returns-in-Bad : goal.returns-in-Bad
 unfolding misfit_by

@@ -28,7 +28,9 @@ returns-then-block-block_size c x e = rw (ne_eqb _ _ (rw c.block_size.ensures at
 pub returns-then-sizes_fit : goal.returns-then-sizes_fit
 unfolding no_log misfit_by shape_fits
 returns-then-sizes_fit c x e =
-    rw (long (goal.at.returns-then-sizes_fit c).Else-block-block_size, looked_at (goal.at.returns-then-sizes_fit c).After-sizes_fit c.if-sizes_fit.true, eq-eqb _ _ e.0, eq-eqb _ _ e.1, eq-eqb _ _ e.2)
+    let else_block_block_size = (goal.at.returns-then-sizes_fit c).Else-block-block_size in
+    let after_sizes_fit = (goal.at.returns-then-sizes_fit c).After-sizes_fit in
+    rw (long else_block_block_size, looked_at after_sizes_fit c.if-sizes_fit.true, eq-eqb _ _ e.0, eq-eqb _ _ e.1, eq-eqb _ _ e.2)
 
 pub returns : goal.returns
 unfolding no_log misfit_by shape_fits

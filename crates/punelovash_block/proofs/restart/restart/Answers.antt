@@ -30,7 +30,8 @@ saves s page r =
 
 restarts : (c : After-restart)
     → saves (goal.at.After-restart c).Start c.restart.new.pagebuffer (restart_answer c.args.width c.restart.result)
-    ≡ restart_block c.args.width c.args.block.now (setup (goal.at.After-restart c).Start) (is_set c.args.read_client) (is_set c.args.append_client) (lent (goal.at.After-restart c).Start)
+    ≡ restart_block c.args.width c.args.block.now (setup (goal.at.After-restart c).Start) (is_set c.args.read_client) (is_set c.args.append_client)
+    (lent (goal.at.After-restart c).Start)
 restarts c = rw (eq-eqb _ _ (whole (goal.at.After-restart c).Else-block-block_size), ← c.restart.ensures)
 
 pub returns-then-block-block_size : goal.returns-then-block-block_size
