@@ -1,26 +1,13 @@
 -- Laws of what an operation leaves in its slot.
-use Prim.Native.Nat.{ℕ, ◌+◌, ◌*◌, ◌-◌, ◌/◌, ◌≤◌, ◌<◌}
-use mathlib.Core.Path.{◌≡◌, refl, sym, ap, ◌∙◌}
-use mathlib.Core.Bool.{Bool, true, false, ◌&&◌}
-use mathlib.Core.List.{List, ◌++◌, append_assoc}
-use native.Mathlib.Omega.{arith}
-use lib.ListN.{length, take, drop, replicate, length-replicate}
-use borrow.Author.Tests.{leb-true, le-leb, lt-leb, eq-eqb, ne_eqb}
-use Rattle.page.specs.Pick.{pick}
+use Rattle.std.proofs.Common.{◌≡◌, ℕ, ◌+◌, ◌*◌, ◌-◌, ◌≤◌, Bool, true, false, ◌&&◌, List, ◌++◌, length, take, drop, replicate, refl, sym, ap, ◌∙◌, arith}
+use Rattle.std.proofs.Common.{append_assoc, eq-eqb}
+use borrow.Author.Tests.{leb-true, ne_eqb}
 use borrow.Rule.Slice.PartMut.{put_mid, mid_of, mid_len, Post-is}
-use Rattle.page.specs.Bytes.{pad_byte, overwrite, filled}
+use lib.ListN.{length-replicate}
+use Rattle.page.specs.Pick.{pick}
+use Rattle.page.specs.Bytes.{pad_byte, overwrite}
 use Rattle.page.specs.Slots.{put_slot}
-use Rattle.page.proofs.Overwrites.{filled_whole}
-use Rattle.page.proofs.Kit.{parts, pages_le}
 use Rattle.bench_flash.specs.Flash.{slot_fits, in_slot, blank_page}
-
--- a volume has the slots below its length / P
-pub has_slot : (p s v : ℕ) → 0 < p → s < v / p → slot_fits p s v ≡ true
-has_slot p s v z h = let q = parts v z in le-leb (s * p + p) v (omega (arith, pages_le p h, q.split))
-
--- and no others
-pub no_slot : (p s v : ℕ) → 0 < p → v / p ≤ s → slot_fits p s v ≡ false
-no_slot p s v z h = let q = parts v z in lt-leb (s * p + p) v (omega (arith, pages_le p h, q.split, q.rest))
 
 -- a slot of the volume takes P bytes
 pub in_slot_lem : (p s : ℕ) (b volume : List ℕ) → slot_fits p s (length volume) ≡ true → length b ≡ p → in_slot p s b volume ≡ put_slot p s b volume
@@ -54,14 +41,15 @@ part_back bytes b a e h l =
     ∙ sym (append_assoc (take a bytes) b (drop (a + length b) bytes))
 
 -- a slot filled with 0xFF
-pub blanks : (p s : ℕ) (volume b : List ℕ) → slot_fits p s (length volume) ≡ true → b ≡ filled (mid_of (s * p) (s * p + p - s * p) volume) 0 pad_byte
+pub blanks : (p s : ℕ) (volume b : List ℕ) → slot_fits p s (length volume) ≡ true
+    → b ≡ replicate (length (mid_of (s * p) (s * p + p - s * p) volume)) pad_byte
     → put_mid (s * p) (s * p + p - s * p) volume b ≡ in_slot p s (blank_page p) volume
 unfolding put_slot
 blanks p s volume b f e =
     let fits : s * p + p ≤ length volume = leb-true (s * p + p) (length volume) f in
     let long : length (mid_of (s * p) (s * p + p - s * p) volume) ≡ s * p + p - s * p = mid_len (s * p) (s * p + p) volume fits in
     let size : s * p + p - s * p ≡ p = omega arith in
-    let all : b ≡ blank_page p = e ∙ filled_whole _ pad_byte ∙ ap (λ (n : ℕ). replicate n pad_byte) (long ∙ size) in
+    let all : b ≡ blank_page p = e ∙ ap (λ (n : ℕ). replicate n pad_byte) (long ∙ size) in
     part_back volume b (s * p) (s * p + p) (omega arith) (ap (λ (z : List ℕ). length z) all ∙ length_blank p ∙ sym size)
     ∙ ap (overwrite volume (s * p)) all
     ∙ sym (in_slot_lem p s (blank_page p) volume f (length_blank p))

@@ -1,5 +1,5 @@
 -- The bench flash: what an operation is, when one starts, and what it may leave. p is the page size P, s a slot.
-use Rattle.std.specs.Prelude.{ℕ, ◌+◌, ◌*◌, ◌-◌, Bool, ◌&&◌, List, length, replicate, leb, eqb}
+use Rattle.std.specs.Prelude.{ℕ, ◌+◌, ◌*◌, ◌-◌, Bool, ◌&&◌, List, length, replicate, leb, eqb, Option, Some, None}
 use Rattle.page.specs.Pick.{pick}
 use Rattle.page.specs.Bytes.{pad_byte}
 use Rattle.page.specs.Slots.{put_slot}
@@ -15,10 +15,10 @@ pub data Operation : Type 0 where
   no_operation : Operation
   writing erasing : ℕ → Operation
 
-abbrev pub operation_of : operation.Operation → Operation
-operation_of op.Nothing = no_operation
-operation_of (op.Write s) = writing s
-operation_of (op.Erase s) = erasing s
+abbrev pub operation_of : Option operation.Operation → Operation
+operation_of None = no_operation
+operation_of (Some (op.Write s)) = writing s
+operation_of (Some (op.Erase s)) = erasing s
 
 -- a request starts an operation in a slot: the flash page less the first
 abbrev pub requested : Operation → Request → ℕ → Operation

@@ -1,19 +1,48 @@
 // The bench flash: an operation that the driver accepted is under way until it ends, and then its slot holds what it left.
-ghost use Rattle.std.specs.Prelude.{◌-◌, ◌≡◌};
+ghost use Rattle.std.specs.Prelude.{◌≡◌, Some};
 ghost use Rattle.engine_state.specs.Answer.{request_of};
 ghost use Rattle.engine_call.specs.Outcome.{word_of};
-ghost use Rattle.bench_flash.specs.Flash.{operation_of, under_way, slot_fits, in_slot, blank_page, left_of, leave};
+ghost use Rattle.bench_flash.specs.Flash.{operation_of, no_operation, requested, under_way, slot_fits, in_slot, blank_page};
+ghost use Rattle.bench_flash.specs.Flash.{left_of, left_after, leave};
 
 use engine_call::outcome::Driver;
-use engine_state::answer::{FlashPage, Request};
+use engine_state::answer::Request;
 use page::PAD_BYTE;
 
-// The operation that is under way, and its slot.
+// An operation that is under way, and its slot.
 #[derive(Clone, Copy)]
 pub enum Operation {
-    Nothing,
     Write(usize),
     Erase(usize),
+}
+
+impl Operation {
+    // The operation that a request asks for: its slot is the flash page less the first.
+    fn requested(request: Request, first_page: usize) -> Operation
+        ensures { operation_of (Some result) ≡ requested no_operation (request_of (Some request)) first_page }
+    {
+        match request {
+            Request::Write(page) => Operation::Write(page.0.saturating_sub(first_page)),
+            Request::Erase(page) => Operation::Erase(page.0.saturating_sub(first_page)),
+        }
+    }
+}
+
+// The operation under way after a call: a request that the driver accepts starts one.
+pub fn start(
+    operation: Option<Operation>,
+    request: Option<Request>,
+    word: Driver,
+    first_page: usize,
+) -> Option<Operation>
+    ensures { operation_of result ≡ under_way (operation_of operation) (request_of request) (word_of word) first_page }
+{
+    match word {
+        Driver::OK => request
+            .map(|asked| Operation::requested(asked, first_page))
+            .or(operation),
+        Driver::BUSY | Driver::FAIL => operation,
+    }
 }
 
 // What an operation leaves in its slot: the old page, 0xFF everywhere, or the new page, which of an erase is 0xFF everywhere.
@@ -24,84 +53,67 @@ pub enum Left {
     New,
 }
 
-// The slot of a flash page.
-fn slot(page: FlashPage, first_page: usize) -> usize
-    ensures { result ≡ page.0 - first_page }
-{
-    if page.0 < first_page {
-        return 0;
-    }
-    page.0 - first_page
-}
-
-// The operation under way after a call: a request that the driver accepts starts one.
-pub fn start(operation: Operation, request: Request, word: Driver, first_page: usize) -> Operation
-    ensures { operation_of result ≡ under_way (operation_of operation) (request_of request) (word_of word) first_page }
-{
-    match word {
-        Driver::BUSY => return operation,
-        Driver::FAIL => return operation,
-        Driver::OK => {}
-    }
-    match request {
-        Request::Nothing => operation,
-        Request::Write(page) => Operation::Write(slot(page, first_page)),
-        Request::Erase(page) => Operation::Erase(slot(page, first_page)),
+impl Left {
+    // What an operation leaves that ends well or not.
+    pub fn after(self, good: bool) -> Left
+        ensures { left_of result ≡ left_after good (left_of self) }
+    {
+        if good { Left::New } else { self }
     }
 }
 
-// Whether a volume has a slot.
-fn slot_fits(volume_len: usize, page_size: usize, slot: usize) -> bool
-    ensures { result ≡ slot_fits page_size slot volume_len }
-{
-    if page_size == 0 {
-        return true;
-    }
-    slot < volume_len / page_size
+// A slot, and the page size P of its volume.
+#[derive(Clone, Copy)]
+pub struct Slot {
+    pub number: usize,
+    pub page_size: usize,
 }
 
-// A slot takes a page; a slot that the volume hasn't, or a page of another size, changes nothing.
-fn put_slot(volume: &mut [u8], page_size: usize, slot: usize, page: &[u8])
-    ensures { volume.new ≡ in_slot page_size slot page.now volume.old }
-{
-    if !slot_fits(volume.len(), page_size, slot) {
-        return;
+impl Slot {
+    // Whether a volume has it.
+    fn fits(self, volume_len: usize) -> bool
+        ensures { result ≡ slot_fits self.page_size self.number volume_len }
+    {
+        self.page_size == 0 || self.number < volume_len / self.page_size
     }
-    if page.len() != page_size {
-        return;
-    }
-    page::bytes::copy_in(volume, slot * page_size, page);
-}
 
-// A slot becomes 0xFF everywhere.
-fn blank_slot(volume: &mut [u8], page_size: usize, slot: usize)
-    ensures { volume.new ≡ in_slot page_size slot (blank_page page_size) volume.old }
-{
-    if !slot_fits(volume.len(), page_size, slot) {
-        return;
+    // It takes a page; a slot that the volume hasn't, or a page of another size, changes nothing.
+    fn put(self, volume: &mut [u8], page: &[u8])
+        ensures { volume.new ≡ in_slot self.page_size self.number page.now volume.old }
+    {
+        if self.fits(volume.len()) && page.len() == self.page_size {
+            page::bytes::copy_in(volume, self.number * self.page_size, page);
+        }
     }
-    let start = slot * page_size;
-    page::bytes::fill(&mut volume[start..start + page_size], 0, PAD_BYTE);
-}
 
-// A write has ended.
-pub fn end_write(volume: &mut [u8], page_size: usize, slot: usize, page: &[u8], left: Left)
-    ensures { volume.new ≡ leave page_size slot page.now (left_of left) volume.old }
-{
-    match left {
-        Left::Old => {}
-        Left::Blank => blank_slot(volume, page_size, slot),
-        Left::New => put_slot(volume, page_size, slot, page),
+    // It becomes 0xFF everywhere.
+    fn blank(self, volume: &mut [u8])
+        ensures { volume.new ≡ in_slot self.page_size self.number (blank_page self.page_size) volume.old }
+    {
+        if self.fits(volume.len()) {
+            let start = self.number * self.page_size;
+            volume[start..start + self.page_size].fill(PAD_BYTE);
+        }
     }
-}
 
-// An erase has ended.
-pub fn end_erase(volume: &mut [u8], page_size: usize, slot: usize, left: Left)
-    ensures { volume.new ≡ leave page_size slot (blank_page page_size) (left_of left) volume.old }
-{
-    match left {
-        Left::Old => {}
-        Left::Blank => blank_slot(volume, page_size, slot),
-        Left::New => blank_slot(volume, page_size, slot),
+    // A write has ended.
+    pub fn end_write(self, volume: &mut [u8], page: &[u8], left: Left)
+        ensures { volume.new ≡ leave self.page_size self.number page.now (left_of left) volume.old }
+    {
+        match left {
+            Left::Old => {}
+            Left::Blank => self.blank(volume),
+            Left::New => self.put(volume, page),
+        }
+    }
+
+    // An erase has ended.
+    pub fn end_erase(self, volume: &mut [u8], left: Left)
+        ensures { volume.new ≡ leave self.page_size self.number (blank_page self.page_size) (left_of left) volume.old }
+    {
+        match left {
+            Left::Old => {}
+            Left::Blank | Left::New => self.blank(volume),
+        }
     }
 }

@@ -1,13 +1,7 @@
 -- A further restart after a list, and what is read then. g is the setup.
-use Prim.Native.Nat.{ℕ}
-use mathlib.Core.Path.{◌≡◌, refl, sym, ap, ◌∙◌, subst}
-use mathlib.Core.Bool.{Bool, true}
-use mathlib.Core.List.{List}
-use mathlib.Core.Option.{Option, none, some}
-use native.Mathlib.Nat.{sub-zero}
-use lib.ListN.{length, replicate, length-replicate}
+use Rattle.std.proofs.Common.{ℕ, ◌≡◌, refl, sym, ap, ◌∙◌, subst, Bool, true, List, length}
+use Rattle.std.proofs.Math.Option.{Option, none, some}
 use Rattle.page.specs.Header.{Extent}
-use Rattle.page.specs.Bytes.{filled}
 use Rattle.page.specs.Layout.{entries_length}
 use Rattle.engine_state.specs.Answer.{OK}
 use Rattle.engine_state.specs.Log.{Setup, Log}
@@ -27,18 +21,11 @@ use Rattle.bench_run.specs.Entries.{ReadsOut, ReadOut, laid}
 use Rattle.bench_run.specs.Run.{unstarted, after, again, FoundLog, MatchesBook, Ran, Runs, list_ran}
 use Rattle.bench_run.proofs.ReadLink.{read_fitting}
 
--- bytes that are filled with zeros
-pub zeros_here : (out : List ℕ) {out' : List ℕ} → out' ≡ filled out 0 0 → out' ≡ replicate (length out') 0
-unfolding filled
-zeros_here out {out'} e =
-    let z : out' ≡ replicate (length out) 0 = e ∙ ap (λ n. replicate n 0) (sub-zero (length out)) in
-    z ∙ ap (λ n. replicate n 0) (sym (ap length z ∙ length-replicate (length out) 0))
-
 -- a restart that is answered OK, with its read client set
-record Answered (g : Setup) (s : Step) : Type 0 where
-  ok : s.told.answer ≡ some OK
-  client : s.world.log.read_client ≡ true
-  setup : s.world.log.setup ≡ g
+pub record Answered (g : Setup) (s : Step) : Type 0 where
+  pub ok : s.told.answer ≡ some OK
+  pub client : s.world.log.read_client ≡ true
+  pub setup : s.world.log.setup ≡ g
 
 module _ (g : Setup) (append_client : Bool) where
   -- the log that a restart makes
@@ -52,7 +39,7 @@ module _ (g : Setup) (append_client : Bool) where
   volume_stays x page hold (refused a) = refl
 
   -- a restart on a volume and buffers that fit, which are told by the volume after it
-  again_answers : (left : Left) (x : World) → let s : Step = step g x (restart (in_place left true append_client x)) in
+  pub again_answers : (left : Left) (x : World) → let s : Step = step g x (restart (in_place left true append_client x)) in
       shape_fits g (length s.world.volume) (length x.page) (length x.hold) ≡ true → Answered g s
   unfolding log.restart
   again_answers left x fit =

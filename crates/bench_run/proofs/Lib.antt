@@ -1,4 +1,5 @@
 -- The laws of lists of events as bytes, of a list that runs, and of the entries that are read.
+pub mod Compared
 pub mod Lists
 pub mod NextLaw
 pub mod OutLaw

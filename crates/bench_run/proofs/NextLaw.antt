@@ -1,12 +1,9 @@
 -- One read into the rest of a buffer of zeros, past a word. x is what is lent, l the log.
-use Prim.Native.Nat.{ℕ, ◌+◌, ◌*◌, ◌-◌, ◌≤◌}
-use mathlib.Core.Path.{◌≡◌, refl, sym, ap, ◌∙◌}
-use mathlib.Core.List.{List, [], ◌∷◌, ◌++◌, append_assoc, append-nil}
-use native.Mathlib.Omega.{arith}
-use native.Mathlib.Nat.{zero-add}
-use lib.ListN.{length, take, drop, replicate, length-drop, length-replicate, replicate-append-replicate, drop_of_length-le}
-use lib.Seq.{take_all, take_at, drop_at, length-take-le}
-use borrow.Author.Tests.{ltb-false, not-false}
+use Rattle.std.proofs.Common.{ℕ, ◌+◌, ◌*◌, ◌-◌, ◌≤◌, ◌≡◌, refl, sym, ap, ◌∙◌, List, [], ◌∷◌, ◌++◌, append_assoc, append-nil, arith, zero-add, length, take}
+use Rattle.std.proofs.Common.{drop, replicate, length-drop, drop_of_length-le, take_all, take_at, drop_at, length-take-le, ltb-false}
+use Rattle.std.proofs.lemmas.Bool.{not-false}
+use Rattle.std.proofs.lemmas.List.{length-replicate}
+use Rattle.std.proofs.lemmas.List.{drop-replicate}
 use borrow.Rule.Slice.PartMut.{mid_of, put_mid, put_same}
 use Rattle.page.specs.Word.{word_bytes}
 use Rattle.page.specs.Bytes.{overwrite}
@@ -19,21 +16,17 @@ use Rattle.page_lookup.specs.Held.{bytes_at}
 use Rattle.page_lookup.proofs.Helds.{lent}
 use Rattle.page_lookup.proofs.Lengths.{lengthy, length_data}
 use Rattle.engine_call.specs.Outcome.{Lent, Done}
+use Rattle.engine_call.specs.Call as calls
 use Rattle.engine_call.proofs.Checks.{through}
 use Rattle.engine_read.specs.Read.{read, read_buffer}
+use Rattle.engine_laws.proofs.Leaves.{call_leaves}
 use Rattle.engine_laws.proofs.ReadRows.{read_gives, unread}
 use Rattle.bench_run.specs.Entries.{reading, entry_read, afterwards, Roomy, laid, next_entry_read, next_ends, NextRead, no_more, one_more}
 
--- zeros past an offset, and bytes written to their front
-drop_zeros : (a n : ℕ) → a ≤ n → drop {A = ℕ} a (replicate n 0) ≡ replicate (n - a) 0
-drop_zeros a n h =
-    let e : n ≡ a + (n - a) = omega arith in
-    let s : replicate {A = ℕ} n 0 ≡ replicate a 0 ++ replicate (n - a) 0 = ap (λ k. replicate k 0) e ∙ sym (replicate-append-replicate a (n - a) 0) in
-    ap (drop a) s ∙ drop_at (replicate a 0) (replicate (n - a) 0) a (length-replicate a 0)
-
+-- bytes written to the front of zeros
 overwrite_zeros : (n : ℕ) (b : List ℕ) → length b ≤ n → overwrite (replicate n 0) 0 b ≡ b ++ replicate (n - length b) 0
 unfolding overwrite
-overwrite_zeros n b h = rw (zero-add (length b), drop_zeros (length b) n h)
+overwrite_zeros n b h = rw (zero-add (length b), drop-replicate {X = ℕ} (length b) n 0)
 
 -- the rest of a slice that is lent, and the slice with it back
 pub rest_lent : (a : ℕ) (out : List ℕ) → mid_of a (length out - a) out ≡ drop a out
@@ -53,6 +46,10 @@ word_before w out b e k h f g =
     let m : length out - (w + length e + 0) ≡ length out - w - length e = omega arith in
     rw (f, g, zero-add, length_word_bytes w (length e), drop_at (take w out) (e ++ zeros) w (length-take-le w out h), m, append-nil)
     (sym (append_assoc (word_bytes w (length e)) e zeros))
+
+-- the log after a read and its deferred call has the same setup
+pub read_keeps : (x : Lent) (l : Log) (room : ℕ) → (afterwards x (reading x l room).outcome.log).setup ≡ l.setup
+read_keeps x l room = (call_leaves _ x calls.deferred).setup ∙ (call_leaves l x (calls.read room l.setup.p)).setup
 
 -- an entry that is read into `room` zeros: its length, and the buffer
 pub record Given (x : Lent) (l : Log) (room : ℕ) : Type 0 where
@@ -103,7 +100,7 @@ module _ (x : Lent) (l : Log) (out : List ℕ) where
         → NextRead x l out out' (next_entry_read next d.outcome.log.kept)
     next_reads q z a f =
         let room = length out - w in
-        let zeros : rest ≡ replicate room 0 = rest_lent w out ∙ ap (drop w) z ∙ drop_zeros w (length out) (omega arith) in
+        let zeros : rest ≡ replicate room 0 = rest_lent w out ∙ ap (drop w) z ∙ drop-replicate {X = ℕ} w (length out) 0 in
         let said : d ≡ reading x l room = c.0 ∙ ap (λ k. read l x k l.setup.p) (ap length zeros ∙ length-replicate room 0) in
         let ok : (reading x l room).outcome.answer ≡ OK = ap (λ (d : Done). d.outcome.answer) (sym said) ∙ q in
         let g = entry_given x l room ok in

@@ -1,25 +1,18 @@
--- Reading on into a buffer of zeros. w is the width of a word, x what is lent; logs are the code's.
-use Prim.Native.Nat.{ℕ, ◌+◌, ◌-◌, ◌^◌, ◌≤◌, ◌<◌}
-use mathlib.Core.Path.{◌≡◌, refl, sym, ap, ◌∙◌, subst}
-use mathlib.Core.Bool.{Bool, false}
-use mathlib.Core.List.{List, [], ◌∷◌, ◌++◌, append_assoc, append-nil}
-use native.Mathlib.Omega.{arith}
-use native.Mathlib.Nat.{sub-zero}
-use lib.ListN.{length, take, drop, replicate, length-append, length-replicate}
-use lib.Seq.{take_at, drop_at}
-use lib.Dec.{eqb}
+-- Reading on into a buffer of zeros. x is what is lent, l the log from which reading began.
+use Rattle.std.proofs.Common.{ℕ, ◌+◌, ◌-◌, ◌^◌, ◌≤◌, ◌<◌, ◌≡◌, sym, ap, ◌∙◌, subst, Bool, false, List, [], ◌∷◌, ◌++◌, append_assoc, append-nil, arith}
+use Rattle.std.proofs.Common.{length, take, drop, replicate, length-append, take_at, drop_at, eqb}
+use Rattle.std.proofs.lemmas.List.{length-replicate}
 use borrow.Rule.Slice.PartMut.{mid_of, put_mid, put_same}
 use Rattle.page.specs.Sizes.{Width}
 use Rattle.page.specs.Layout.{encode_all, entries_length}
 use Rattle.page.proofs.Pages.{width_pos, length_encode_all, encode_all_append, entries_length_append}
 use Rattle.page.specs.Answered.{FAIL}
-use Rattle.engine_state.specs.declared.state.Log as code
-use Rattle.engine_state.specs.Log.{log_of}
+use Rattle.engine_state.specs.Log.{Setup, Log}
 use Rattle.engine_call.specs.Outcome.{Lent}
 use Rattle.bench_run.specs.Entries.{entry_read, ReadsOut, out_full, out_ends, out_goes, laid}
 use Rattle.bench_run.specs.Entries.{next_entry_read, next_ends, next_full, NextRead, no_room_left, no_more, one_more}
 use Rattle.bench_run.specs.Entries.{ReadOut}
-use Rattle.bench_run.proofs.NextLaw.{rest_lent, rest_back, entry_given}
+use Rattle.bench_run.proofs.NextLaw.{rest_lent, rest_back, read_keeps, entry_given}
 
 -- the buffer with entries: its length, its rest, and an entry more
 module _ (w n : ℕ) (es : List (List ℕ)) where
@@ -39,58 +32,49 @@ module _ (w n : ℕ) (es : List (List ℕ)) where
       (sym (append_assoc (encode_all w es) (encode_all w (e ∷ [])) (replicate m 0)))
 
 -- what has been read from a log into n zeros: the buffer, the log then, how many entries, and how many bytes they take up
-pub record ReadSofar (w : ℕ) (x : Lent) (l : code.Log) (n : ℕ) (out : List ℕ) (current : code.Log) (count at : ℕ) : Type 0 where
+pub record ReadSofar (x : Lent) (l : Log) (n : ℕ) (out : List ℕ) (current : Log) (count at : ℕ) : Type 0 where
+  pub setup : current.setup ≡ l.setup
   pub entries : List (List ℕ)
   pub number : count ≡ length entries
-  pub total : at ≡ entries_length w entries
+  pub total : at ≡ entries_length l.setup.w entries
   pub few : count ≤ at
   pub fits : at ≤ n
   pub short : n < 2 ^ 64
   pub size : length out ≡ n
-  pub leaves : out ≡ laid w n entries
-  pub onward : (es : List (List ℕ)) (whole : Bool) → ReadsOut x (log_of w current) (n - at) es whole → ReadsOut x (log_of w l) n (entries ++ es) whole
+  pub leaves : out ≡ laid l.setup.w n entries
+  pub onward : (es : List (List ℕ)) (whole : Bool) → ReadsOut x current (n - at) es whole → ReadsOut x l n (entries ++ es) whole
 
-module _ {w : ℕ} {x : Lent} where
-  -- nothing is read
-  pub sofar_starts : (l : code.Log) (out : List ℕ) → length out < 2 ^ 64 → out ≡ replicate (length out) 0 → ReadSofar w x l (length out) out l 0 0
-  sofar_starts l out b z =
-      record {
-        entries = [];
-        number = refl;
-        total = refl;
-        few = omega arith;
-        fits = omega arith;
-        short = b;
-        size = refl;
-        leaves = z ∙ ap (λ k. replicate k 0) (sym (sub-zero (length out)));
-        onward = λ es whole r. subst (λ k. ReadsOut x (log_of w l) k es whole) (sub-zero (length out)) r;
-      }
-
-  module _ {l : code.Log} {n : ℕ} {out : List ℕ} {current : code.Log} {count at : ℕ} (s : ReadSofar w x l n out current count at) where
+module _ {x : Lent} where
+  module _ {l : Log} {n : ℕ} {out : List ℕ} {current : Log} {count at : ℕ} (s : ReadSofar x l n out current count at) where
     -- the rest of the buffer
     abbrev rest : List ℕ
     rest = mid_of at (length out - at) out
 
     rest_zeros : rest ≡ replicate (n - at) 0
-    rest_zeros = rest_lent at out ∙ rw (s.leaves, s.total) (laid_rest w n s.entries)
+    rest_zeros = rest_lent at out ∙ rw (s.leaves, s.total) (laid_rest l.setup.w n s.entries)
 
     rest_room : length rest ≡ n - at
     rest_room = ap length rest_zeros ∙ length-replicate (n - at) 0
 
-    pub sofar_zeros : rest ≡ replicate (length rest) 0
-    sofar_zeros = rest_zeros ∙ ap (λ k. replicate k 0) (sym rest_room)
+    pub sofar_width : current.setup.w ≡ l.setup.w
+    sofar_width = ap (λ (s : Setup). s.w) s.setup
 
     -- an entry more
-    pub sofar_goes : {part' : List ℕ} {next : code.Log} {size : ℕ} → Width w → NextRead x (log_of w current) rest part' (next_entry_read (log_of w next) size)
-        → ReadSofar w x l n (put_mid at (length out - at) out part') next (count + 1) (at + (w + size))
+    pub sofar_goes : {part' : List ℕ} {next : Log} {size : ℕ} → Width l.setup.w → NextRead x current rest part' (next_entry_read next size)
+        → ReadSofar x l n (put_mid at (length out - at) out part') next (count + 1) (at + (l.setup.w + size))
     sofar_goes {part'} {next} {size} v (one_more h ok log long f) =
-        let e : List ℕ = entry_read x (log_of w current) (length rest - w) in
-        let g = entry_given x (log_of w current) (length rest - w) ok in
+        let w = l.setup.w in
+        let room = length rest - current.setup.w in
+        let same = sofar_width in
+        let e : List ℕ = entry_read x current room in
+        let g = entry_given x current room ok in
         let total : at + (w + size) ≡ entries_length w (s.entries ++ (e ∷ [])) = omega (arith, s.total, long, entries_length_append w s.entries (e ∷ [])) in
-        let fits : at + (w + size) ≤ n = omega (arith, s.fits, h, long, g.fits, rest_room) in
+        let fits : at + (w + size) ≤ n = omega (arith, s.fits, h, long, g.fits, rest_room, same) in
+        let part : part' ≡ laid w (n - at) (e ∷ []) = f ∙ ap (λ k. laid k (length rest) (e ∷ [])) same ∙ ap (λ k. laid w k (e ∷ [])) rest_room in
         let leaves : put_mid at (length out - at) out part' ≡ laid w n (s.entries ++ (e ∷ [])) =
-        rest_back at out part' ∙ laid_more w n s.entries e s.total s.leaves (f ∙ ap (λ k. laid w k (e ∷ [])) rest_room) in
+        rest_back at out part' ∙ laid_more w n s.entries e s.total s.leaves part in
         record {
+          setup = ap (λ (l : Log). l.setup) log ∙ read_keeps x current room ∙ s.setup;
           entries = s.entries ++ (e ∷ []);
           number = omega (arith, s.number, length-append s.entries (e ∷ []));
           total = total;
@@ -100,17 +84,17 @@ module _ {w : ℕ} {x : Lent} where
           size = ap length leaves ∙ length_laid w n (s.entries ++ (e ∷ [])) (omega arith);
           leaves = leaves;
           onward = λ es whole r.
-              let k : n - (at + (w + size)) ≡ length rest - (w + length e) = omega (arith, long, rest_room) in
-              let q = subst (λ m. ReadsOut x (log_of w current) m (e ∷ es) whole) rest_room (out_goes h ok (rw (k, log) at r)) in
+              let k : n - (at + (w + size)) ≡ length rest - (current.setup.w + length e) = omega (arith, long, rest_room, same) in
+              let q = subst (λ m. ReadsOut x current m (e ∷ es) whole) rest_room (out_goes h ok (rw (k, log) at r)) in
               rw (append_assoc s.entries (e ∷ []) es) (s.onward (e ∷ es) whole q);
         }
 
   -- no entry more
-  module _ {l current : code.Log} {begun out part' : List ℕ} {count at : ℕ} (s : ReadSofar w x l (length begun) out current count at) where
-    sofar_ends : {whole : Bool} → ReadsOut x (log_of w current) (length (rest s)) [] whole → part' ≡ rest s
-        → ReadOut x (log_of w l) count at whole begun (put_mid at (length out - at) out part')
+  module _ {l current : Log} {begun out part' : List ℕ} {count at : ℕ} (s : ReadSofar x l (length begun) out current count at) where
+    sofar_ends : {whole : Bool} → ReadsOut x current (length (rest s)) [] whole → part' ≡ rest s
+        → ReadOut x l count at whole begun (put_mid at (length out - at) out part')
     sofar_ends {whole} r e =
-        let r : ReadsOut x (log_of w current) (length begun - at) [] whole = subst (λ k. ReadsOut x (log_of w current) k [] whole) (rest_room s) r in
+        let r : ReadsOut x current (length begun - at) [] whole = subst (λ k. ReadsOut x current k [] whole) (rest_room s) r in
         record {
           entries = s.entries;
           reads = rw append-nil at (s.onward [] whole r);
@@ -120,10 +104,9 @@ module _ {w : ℕ} {x : Lent} where
         }
 
     -- for want of room, or by an answer
-    pub sofar_full : NextRead x (log_of w current) (rest s) part' next_full
-        → ReadOut x (log_of w l) count at false begun (put_mid at (length out - at) out part')
+    pub sofar_full : NextRead x current (rest s) part' next_full → ReadOut x l count at false begun (put_mid at (length out - at) out part')
     sofar_full (no_room_left h e) = sofar_ends (out_full h) e
 
-    pub sofar_stops : {a : ℕ} {whole : Bool} → whole ≡ eqb a FAIL → NextRead x (log_of w current) (rest s) part' (next_ends a)
-        → ReadOut x (log_of w l) count at whole begun (put_mid at (length out - at) out part')
+    pub sofar_stops : {a : ℕ} {whole : Bool} → whole ≡ eqb a FAIL → NextRead x current (rest s) part' (next_ends a)
+        → ReadOut x l count at whole begun (put_mid at (length out - at) out part')
     sofar_stops t (no_more h e n q) = sofar_ends (rw (t, e) (out_ends h (λ k. n (e ∙ k)))) q

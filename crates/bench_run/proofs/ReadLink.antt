@@ -1,12 +1,7 @@
 -- Reading on by the bench's promise and reading into a buffer give the same entries, as far as the buffer goes. x is what is lent.
-use Prim.Native.Nat.{ℕ, ◌+◌, ◌-◌, ◌≤◌, ◌<◌}
-use mathlib.Core.Path.{◌≡◌, refl, sym, ap, ◌∙◌, subst}
-use mathlib.Core.Bool.{Bool, true, false, true≢false}
-use mathlib.Core.List.{List, [], ◌∷◌}
-use native.Mathlib.Omega.{arith}
-use lib.ListN.{length, take, replicate, length-replicate}
-use lib.Dec.{eqb}
-use borrow.Author.Tests.{lt-ltb, le-ltb}
+use Rattle.std.proofs.Common.{ℕ, ◌+◌, ◌-◌, ◌≤◌, ◌<◌, ◌≡◌, refl, sym, ap, ◌∙◌, subst, Bool, true, false, true≢false, List, [], ◌∷◌, arith, length, take}
+use Rattle.std.proofs.Common.{replicate, eqb, lt-ltb, le-ltb}
+use Rattle.std.proofs.lemmas.List.{length-replicate}
 use Rattle.page.specs.Layout.{entries_length}
 use Rattle.page.specs.Answered.{FAIL}
 use Rattle.engine_state.specs.Answer.{OK, Report, no_report, read_done, seek_done}
@@ -16,9 +11,9 @@ use Rattle.engine_call.specs.Call as calls
 use Rattle.engine_read.specs.Read.{read, read_buffer}
 use Rattle.engine_read.specs.Deferred.{deferred}
 use Rattle.engine_laws.proofs.Calls.{by_pick, by_call}
-use Rattle.engine_laws.proofs.Leaves.{call_leaves}
 use Rattle.bench.specs.Promise.{ReadsOn, on_ends, on_goes}
 use Rattle.bench_run.specs.Entries.{reading, entry_read, afterwards, Roomy, ReadsOut, out_full, out_ends, out_goes, fitting}
+use Rattle.bench_run.proofs.NextLaw.{read_keeps}
 
 -- what is read into `room` bytes is what fits of the entries that are promised: all of them, where it goes to FAIL, and else as many as there is room for
 pub record ReadFits (s : Setup) (room : ℕ) (es fs : List (List ℕ)) (whole : Bool) : Type 0 where
@@ -61,10 +56,6 @@ module _ (x : Lent) (l : Log) (room : ℕ) (h : Roomy l.setup room) where
   reading_is : read l x (length zeros) l.setup.p ≡ reading x l (room - l.setup.w)
   reading_is = ap (λ k. read l x k l.setup.p) count
 
-  -- the log after it and the deferred call has the same setup
-  same_setup : (afterwards x (reading x l (room - l.setup.w)).outcome.log).setup ≡ l.setup
-  same_setup = (call_leaves _ x calls.deferred).setup ∙ (call_leaves l x (calls.read (room - l.setup.w) l.setup.p)).setup
-
 -- a deferred call reports the kept length
 reported : (l : Log) (x : Lent) {n : ℕ} → (deferred l x).outcome.report ≡ read_done n OK → l.kept ≡ n
 reported l x {n} =
@@ -75,10 +66,10 @@ reported l x {n} =
     Says r = r ≡ read_done n OK → l.kept ≡ n
 
     silent : Says no_report
-    silent e = let z : ◌≡◌ {A = ℕ} 0 1 = cc in absurd (omega arith)
+    silent e = cc
 
     other : Says (seek_done OK)
-    other e = let z : ◌≡◌ {A = ℕ} 0 1 = cc in absurd (omega arith)
+    other e = cc
 
 pub read_fitting : {x : Lent} {l : Log} {es fs : List (List ℕ)} {room : ℕ} {whole : Bool} → ReadsOn x l es → ReadsOut x l room fs whole
     → ReadFits l.setup room es fs whole
@@ -96,4 +87,4 @@ read_fitting {x} {l} (on_goes {next = next} {e = e} {es = es} f d r) (out_goes {
     let kept : (reading x l (room - l.setup.w)).outcome.log.kept ≡ length e = ap (λ (k : Log). k.kept) log ∙ reported next x d in
     let same : entry_read x l (room - l.setup.w) ≡ e = ap (λ n. take n (read_buffer l x (zeros x l room h) l.setup.p)) kept ∙ t.entry in
     let on : ReadsOn x (afterwards x (reading x l (room - l.setup.w)).outcome.log) es = subst (λ k. ReadsOn x (afterwards x k) es) (sym log) r in
-    fits_more l.setup room h same (rw (same_setup x l room h) at (read_fitting on q))
+    fits_more l.setup room h same (rw (read_keeps x l (room - l.setup.w)) at (read_fitting on q))

@@ -1,5 +1,5 @@
 -- Reading on from a log into a lent buffer, each entry with its length before it, while the buffer has room for a length and P bytes more.
-use Rattle.std.specs.Prelude.{ℕ, ◌+◌, ◌-◌, ◌≤◌, ◌<◌, ◌≡◌, Bool, false, List, [], ◌∷◌, ◌++◌, length, take, replicate, ltb, eqb}
+use Rattle.std.specs.Prelude.{ℕ, ◌+◌, ◌-◌, ◌≤◌, ◌<◌, ◌≡◌, Bool, false, List, [], ◌∷◌, ◌++◌, length, take, replicate, ltb, eqb, Result, Ok, Err}
 use Rattle.page.specs.Pick.{pick}
 use Rattle.page.specs.Layout.{encode_all, entries_length}
 use Rattle.page.specs.Answered.{FAIL}
@@ -8,8 +8,9 @@ use Rattle.engine_state.specs.Log.{Setup, Log, log_of}
 use Rattle.engine_call.specs.Outcome.{Lent, Done}
 use Rattle.engine_read.specs.Read.{read, read_buffer}
 use Rattle.engine_read.specs.Deferred.{deferred}
-use Rattle.bench_run.specs.declared.entries.Next as code
-use Rattle.bench_run.specs.declared.entries.Next.TheVariants as n
+use Rattle.bench_run.specs.declared.entries.Entry.{Entry}
+use Rattle.bench_run.specs.declared.entries.Stop.{Stop}
+use Rattle.bench_run.specs.declared.entries.Stop.TheVariants as s
 
 -- "length P with a buffer at least that long": a read into a buffer of `room` zeros, and the entry that it leaves there
 abbrev pub reading : Lent → Log → ℕ → Done
@@ -50,10 +51,10 @@ pub data Next : Type 0 where
   next_ends : ℕ → Next
   next_full : Next
 
-abbrev pub next_of : ℕ → code.Next → Next
-next_of w (n.Entry l size) = next_entry_read (log_of w l) size
-next_of w (n.End answer) = next_ends (number answer)
-next_of w n.Full = next_full
+abbrev pub next_of : Result Entry Stop → Next
+next_of (Ok e) = next_entry_read (log_of e.log) e.size
+next_of (Err (s.Answered answer)) = next_ends (number answer)
+next_of (Err s.NoRoom) = next_full
 
 pub data NextRead (x : Lent) (l : Log) (out out' : List ℕ) : Next → Type 0 where
   no_room_left : length out < l.setup.w + l.setup.p → out' ≡ out → NextRead x l out out' next_full

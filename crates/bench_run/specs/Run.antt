@@ -1,5 +1,5 @@
 -- A run of a list that is lent as bytes, a further restart, and what is read then. g is the setup.
-use Rattle.std.specs.Prelude.{ℕ, ◌+◌, ◌<◌, ◌≡◌, Bool, true, false, List, length}
+use Rattle.std.specs.Prelude.{ℕ, ◌+◌, ◌<◌, ◌≡◌, Bool, true, false, List, length, Result, Ok, Err}
 use Rattle.std.proofs.Math.Option.{Option, none, some}
 use Rattle.page.specs.Layout.{entries_length}
 use Rattle.engine_state.specs.Log.{Setup, Log}
@@ -13,9 +13,8 @@ use Rattle.bench.specs.Promise.{Bench, stepped, stepped_all, start, NoHeader, Al
 use Rattle.bench_step.specs.Step.{in_place}
 use Rattle.bench_run.specs.Encoded.{decode}
 use Rattle.bench_run.specs.Entries.{ReadOut, fitting, laid}
+use Rattle.engine_state.specs.declared.answer.Answer.{Answer}
 use Rattle.bench_run.specs.declared.run.FoundLog as found
-use Rattle.bench_run.specs.declared.run.Ran as code
-use Rattle.bench_run.specs.declared.run.Ran.TheVariants as r
 
 -- the log before the first restart is any; this one has the list's setup
 abbrev pub unstarted : Setup → Log
@@ -47,11 +46,11 @@ pub record FoundLog : Type 0 where
   pub whole : Bool
 
 abbrev pub found_log_of : found.FoundLog → FoundLog
-found_log_of f = record { oldest = f.oldest.0; append = f.append.0; count = f.count; used = f.used; whole = f.whole }
+found_log_of f = record { oldest = f.oldest.0; append = f.append.0; count = f.entries.count; used = f.entries.used; whole = f.entries.whole }
 
-abbrev pub ran_of : code.Ran → Option FoundLog
-ran_of r.Shape = none
-ran_of (r.Found f) = some (found_log_of f)
+abbrev pub ran_of : Result found.FoundLog Answer → Option FoundLog
+ran_of (Err a) = none
+ran_of (Ok f) = some (found_log_of f)
 
 -- demand 3, of this list: exactly the book's O, A and entries. Where reading went to the first FAIL they are all of the book's; where not, they are
 -- the front of them, as many as there is room for, and `used` says how far

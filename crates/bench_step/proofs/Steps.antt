@@ -1,10 +1,5 @@
 -- Laws of a step. g is the setup, x the world.
-use Prim.Native.Nat.{ℕ, ◌+◌}
-use mathlib.Core.Path.{◌≡◌, refl, sym, ap, ◌∙◌}
-use mathlib.Core.Bool.{Bool, true, false}
-use mathlib.Core.List.{List, []}
-use native.Mathlib.Omega.{arith}
-use lib.ListN.{length, take, drop, length-take, length-drop}
+use Rattle.std.proofs.Common.{ℕ, ◌+◌, ◌≡◌, refl, sym, ap, ◌∙◌, Bool, true, false, List, arith, length, take, drop, length-take, length-drop}
 use Rattle.page.specs.Pick.{pick}
 use Rattle.page.proofs.Kit.{facts}
 use Rattle.engine_state.specs.Answer.{SHAPE}
@@ -12,14 +7,12 @@ use Rattle.engine_state.specs.Log.{Setup}
 use Rattle.engine_state.specs.Check.{shape_fits}
 use Rattle.engine_state.proofs.Checks.{shape_fits_lem}
 use Rattle.engine_call.specs.Outcome.{Lent, lend}
-use Rattle.engine_call.specs.Call.{call_word, Completion, ends_well}
+use Rattle.engine_call.specs.Call.{Completion, ends_well}
 use Rattle.engine_restart.specs.Restart as log
 use Rattle.engine_restart.specs.Restart.{RestartDone, refused, started_from, headers}
 use Rattle.engine_restart.proofs.Restarts.{started_log}
 use Rattle.bench_flash.specs.Flash.{Left, left_after}
-use Rattle.bench_flash.specs.declared.event.Call as code
-use Rattle.bench_flash.specs.declared.event.Call.TheVariants as c
-use Rattle.bench_flash.specs.Event.{Event, Restart, cut, restart, call_of}
+use Rattle.bench_flash.specs.Event.{Event, Restart, cut, restart}
 use Rattle.bench.specs.World.{World, Told, Step, ends, completion_step, undelivered, step_on, step_off, step, cut_step}
 use Rattle.bench_step.specs.Step.{end_step, comes, restarts_after}
 
@@ -31,15 +24,6 @@ on g x e p = ap (λ (t : Bool). pick t (step_on g x e) (step_off g x e)) p
 pub off : (g : Setup) (x : World) (e : Event) → x.power ≡ false → step g x e ≡ step_off g x e
 unfolding step
 off g x e p = ap (λ (t : Bool). pick t (step_on g x e) (step_off g x e)) p
-
--- a call's word is not one of its bytes
-pub word_alone : (k : code.Call) (bytes : List ℕ) (room : ℕ) → call_word (call_of k [] 0) ≡ call_word (call_of k bytes room)
-word_alone (c.Append n word) bytes room = refl
-word_alone (c.Sync word) bytes room = refl
-word_alone (c.Read n) bytes room = refl
-word_alone (c.Seek id) bytes room = refl
-word_alone c.Deferred bytes room = refl
-word_alone (c.Erase word) bytes room = refl
 
 -- a completion of the operation under way, which has ended
 pub comes_due : (g : Setup) (x : World) (k : Completion) (left l : Left) (over : Step) {s : Step}

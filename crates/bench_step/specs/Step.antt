@@ -1,10 +1,12 @@
--- What a value of the code says of the bench's setup, its world and what is told of an event. g is the setup.
+-- What a value of the code says of the bench's world and what is told of an event. g is the setup.
 -- `page`, `hold` and `volume` are lent beside the code's world, `bytes` and a read's buffer beside its event.
 use Rattle.std.specs.Prelude.{ℕ, Bool, List}
+use Rattle.std.specs.Prelude as code
 use Rattle.std.proofs.Math.Option.{Option, none, some}
 use Rattle.page.specs.Pick.{pick}
 use Rattle.engine_state.specs.Answer.{number, report_of, request_of}
-use Rattle.engine_state.specs.Log.{Setup, Log, setup_of, log_of}
+use Rattle.engine_state.specs.Log.{Setup, Log, log_of}
+use Rattle.engine_state.specs.declared.answer.Answer as answers
 use Rattle.engine_call.specs.Outcome.{Lent}
 use Rattle.engine_call.specs.Call.{Call, append, sync, read, seek, deferred, erase, Completion, completion_word}
 use Rattle.engine_read.specs.Read.{read_buffer}
@@ -12,22 +14,16 @@ use Rattle.bench_flash.specs.Flash.{operation_of, left_of, Left}
 use Rattle.bench_flash.specs.Event.{Event, call, completion, cut, restart, Restart}
 use Rattle.engine_laws.specs.Call.{complete}
 use Rattle.bench.specs.World.{World, lent_by, Ended, unended, wrote, erased, Told, erased_slot, Step, delivered, ending, ended_by, quiet, restart_step}
-use Rattle.bench_step.specs.declared.world.Setup as setup
 use Rattle.bench_step.specs.declared.world.World as world
 use Rattle.bench_step.specs.declared.world.Ended as ended
 use Rattle.bench_step.specs.declared.world.Ended.TheVariants as e
-use Rattle.bench_step.specs.declared.world.Delivery as delivery
-use Rattle.bench_step.specs.declared.world.Delivery.TheVariants as d
 use Rattle.bench_step.specs.declared.world.Told as told
 use Rattle.bench_step.specs.declared.world.Step as step
 
-abbrev pub given_setup : setup.Setup → Setup
-given_setup s = setup_of s.width s.geometry s.circular
-
-abbrev pub world_of : Setup → world.World → List ℕ → List ℕ → List ℕ → World
-world_of g x page hold volume = record {
+abbrev pub world_of : world.World → List ℕ → List ℕ → List ℕ → World
+world_of x page hold volume = record {
   power = x.power;
-  log = log_of g.w x.log;
+  log = log_of x.log;
   page = page;
   hold = hold;
   volume = volume;
@@ -35,15 +31,15 @@ world_of g x page hold volume = record {
 }
 
 -- what an operation that ended has left
-abbrev pub ended_of : ended.Ended → Ended
-ended_of e.Nothing = unended
-ended_of (e.Wrote left) = wrote (left_of left)
-ended_of (e.Erased left) = erased (left_of left)
+abbrev pub ended_of : code.Option ended.Ended → Ended
+ended_of code.None = unended
+ended_of (code.Some (e.Wrote left)) = wrote (left_of left)
+ended_of (code.Some (e.Erased left)) = erased (left_of left)
 
 -- "answers and reports, an erase request's slot and what each operation left"
-abbrev pub answer_of : delivery.Delivery → Option ℕ
-answer_of d.Nothing = none
-answer_of (d.Answer a) = some (number a)
+abbrev pub answer_of : code.Option answers.Answer → Option ℕ
+answer_of code.None = none
+answer_of (code.Some a) = some (number a)
 
 abbrev pub told_of : Setup → told.Told → Told
 told_of g t = record {
@@ -54,7 +50,7 @@ told_of g t = record {
 }
 
 abbrev pub step_of : Setup → step.Step → List ℕ → List ℕ → List ℕ → Step
-step_of g s page hold volume = record { world = world_of g s.world page hold volume; told = told_of g s.told }
+step_of g s page hold volume = record { world = world_of s.world page hold volume; told = told_of g s.told }
 
 -- the operation under way ends
 abbrev pub end_step : Setup → World → Left → Step

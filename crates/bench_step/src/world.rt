@@ -1,123 +1,129 @@
-// The bench's world, and what is told of an event. The volume, the page buffer and the hold buffer are lent beside it.
+// The bench's world, and what is told of an event. The volume, the page buffer and the hold buffer are lent beside it: each function is lent for writing those
+// alone that it may change, so they are no struct.
 ghost use Rattle.std.specs.Prelude.{◌≡◌, false, List, ℕ};
 ghost use Rattle.std.proofs.Math.Option.{none};
 ghost use Rattle.engine_state.specs.Answer.{no_report};
 ghost use Rattle.engine_state.specs.Log as setups;
-ghost use Rattle.engine_state.specs.Log.{log_of};
+ghost use Rattle.engine_state.specs.Log.{setup_of, log_of};
 ghost use Rattle.engine_restart.specs.Restart.{at_rest};
-ghost use Rattle.bench_flash.specs.Flash.{no_operation};
+ghost use Rattle.bench_flash.specs.Flash.{operation_of};
+ghost use Rattle.bench_flash.specs.Event.{completion_of};
+ghost use Rattle.engine_laws.specs.Call.{unless_due};
 ghost use Rattle.bench.specs.World as bench;
-ghost use Rattle.bench_step.specs.Step.{given_setup, world_of, ended_of, answer_of, step_of};
+ghost use Rattle.bench_step.specs.Step.{world_of, ended_of, answer_of, step_of};
 
+use bench_flash::event::Completion;
 use bench_flash::operation::{Left, Operation};
 use engine_state::answer::{Answer, Report, Request};
-use engine_state::state::{Geometry, Log, State};
+use engine_state::state::{Log, Setup, State};
 use page::id::EntryID;
-
-// The width of a word, the sizes and the mode.
-#[derive(Clone, Copy)]
-pub struct Setup {
-    pub width: usize,
-    pub geometry: Geometry,
-    pub circular: bool,
-}
 
 #[derive(Clone, Copy)]
 pub struct World {
     pub power: bool,
     pub log: Log,
     // The operation that is under way.
-    pub operation: Operation,
+    pub operation: Option<Operation>,
 }
 
 // What an operation that ended has left.
 #[derive(Clone, Copy)]
 pub enum Ended {
-    Nothing,
     Wrote(Left),
     Erased(Left),
 }
 
-// The answer, where a call was delivered.
-#[derive(Clone, Copy)]
-pub enum Delivery {
-    Nothing,
-    Answer(Answer),
-}
-
-// What is told of an event.
+// What is told of an event: what an operation that ended has left; the answer, where a call was delivered; its report and its request.
 #[derive(Clone, Copy)]
 pub struct Told {
-    pub ended: Ended,
-    pub answer: Delivery,
-    pub report: Report,
-    pub request: Request,
+    pub ended: Option<Ended>,
+    pub answer: Option<Answer>,
+    pub report: Option<Report>,
+    pub request: Option<Request>,
 }
 
+// The world after an event, and what is told of it.
 #[derive(Clone, Copy)]
 pub struct Step {
     pub world: World,
     pub told: Told,
 }
 
-// Where a list begins: the power is off, and the log is any; this one has the setup.
-pub fn begin(setup: Setup) -> World
-    ensures { (page hold volume : List ℕ) → let g = given_setup setup in
-        world_of g result page hold volume ≡ bench.before (at_rest g false false 0 0) volume page hold }
-{
-    let geometry = setup.geometry;
-    World {
-        power: false,
-        log: Log {
-            geometry,
-            circular: setup.circular,
-            read_client: false,
-            append_client: false,
-            state: State::Idle,
-            oldest_entry_id: EntryID(0),
-            read_entry_id: EntryID(0),
-            append_entry_id: EntryID(0),
-            length: 0,
-        },
-        operation: Operation::Nothing,
-    }
+// A world, and the setup, which stays the same over a list.
+#[derive(Clone, Copy)]
+pub struct Bench {
+    pub setup: Setup,
+    pub world: World,
 }
 
-// An event that does nothing.
-pub fn undelivered(world: World) -> Step
-    ensures { (g : setups.Setup) (page hold volume : List ℕ) → step_of g result page hold volume
-        ≡ bench.undelivered (world_of g world page hold volume) }
-{
-    Step {
-        world,
-        told: Told {
-            ended: Ended::Nothing,
-            answer: Delivery::Nothing,
-            report: Report::Nothing,
-            request: Request::Nothing,
-        },
+impl World {
+    // Where a list begins: the power is off, and the log is any; this one has the setup.
+    pub fn begin(setup: Setup) -> World
+        ensures { (page hold volume : List ℕ) → world_of result page hold volume
+            ≡ bench.before (at_rest (setup_of setup) false false 0 0) volume page hold }
+    {
+        World {
+            power: false,
+            log: Log {
+                setup,
+                read_client: false,
+                append_client: false,
+                state: State::Idle,
+                oldest_entry_id: EntryID(0),
+                read_entry_id: EntryID(0),
+                append_entry_id: EntryID(0),
+                length: 0,
+            },
+            operation: None,
+        }
     }
-}
 
-// No operation is under way any more; there is no report and no request.
-pub(crate) fn at_rest(power: bool, log: Log, ended: Ended, answer: Delivery) -> Step
-    ensures { (g : setups.Setup) (page hold volume : List ℕ) → step_of g result page hold volume
-        ≡ record {
-          world = record { power = power; log = log_of g.w log; page = page; hold = hold; volume = volume; operation = no_operation };
-          told = record { ended = ended_of ended; answer = answer_of answer; report = no_report; erases = none };
-        } }
-{
-    Step {
-        world: World {
-            power,
-            log,
-            operation: Operation::Nothing,
-        },
-        told: Told {
-            ended,
-            answer,
-            report: Report::Nothing,
-            request: Request::Nothing,
-        },
+    // The world after an event with neither report nor request.
+    pub(crate) fn told(self, ended: Option<Ended>, answer: Option<Answer>) -> Step
+        ensures { (g : setups.Setup) (page hold volume : List ℕ) → step_of g result page hold volume
+            ≡ record {
+              world = world_of self page hold volume;
+              told = record { ended = ended_of ended; answer = answer_of answer; report = no_report; erases = none };
+            } }
+    {
+        Step {
+            world: self,
+            told: Told {
+                ended,
+                answer,
+                report: None,
+                request: None,
+            },
+        }
+    }
+
+    // An event that does nothing.
+    pub fn undelivered(self) -> Step
+        ensures { (g : setups.Setup) (page hold volume : List ℕ) → step_of g result page hold volume
+            ≡ bench.undelivered (world_of self page hold volume) }
+    {
+        self.told(None, None)
+    }
+
+    // Whether a completion is of the operation under way.
+    pub fn is_ended_by(self, completion: Completion) -> bool
+        ensures { result ≡ bench.ends (completion_of completion) (operation_of self.operation) }
+    {
+        matches!(
+            (completion, self.operation),
+            (Completion::Write(_), Some(Operation::Write(_)))
+                | (Completion::Erase(_, _), Some(Operation::Erase(_)))
+        )
+    }
+
+    // Whether STRAY refuses a completion.
+    pub(crate) fn is_stray(self, completion: Completion) -> bool
+        ensures { result ≡ (unless_due (log_of self.log) (completion_of completion)).test }
+    {
+        !matches!(
+            (completion, self.log.state),
+            (Completion::Write(_), State::Append | State::Sync)
+                | (Completion::Erase(_, _), State::Erase)
+        )
     }
 }

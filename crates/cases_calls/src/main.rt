@@ -3,19 +3,23 @@
 #![tactic(auto)]
 
 mod calls;
+mod lent;
 mod limits;
 mod outcome;
 
 use std::io;
-use tool_print::print;
-
-fn cases(rt: &impl Print, width: usize) -> io::Result<()> {
-    print::line(rt, b"w", 0, width)?;
-    calls::cases(rt, width)?;
-    limits::cases(rt, width)
-}
+use tool_print::board::Board;
+use tool_print::print::Cases;
 
 fn main(rt: HostRuntime) -> io::Result<()> {
-    cases(&rt, 4)?;
-    cases(&rt, 8)
+    for width in [4, 8] {
+        let on = Cases {
+            rt: &rt,
+            board: Board::new(width),
+        };
+        on.line("w", width)?;
+        calls::cases(&on)?;
+        limits::cases(&on)?;
+    }
+    Ok(())
 }

@@ -1,162 +1,64 @@
-// Headers of a volume. `names` has a line for each case.
-use page::header::{Header, Span};
+// Headers of a volume.
+ghost use Rattle.std.specs.Prelude.{◌≡◌, ◌<◌};
+
+use crate::volume;
+use page::header::Volume;
 use std::io;
-use tool_print::sizes::count;
-use tool_print::{build, print, sizes};
-use tool_script::text;
+use tool_print::board::{Board, PAGES};
+use tool_print::print::Cases;
 
-// The header in a slot.
-fn header(
-    rt: &impl Print,
-    width: usize,
-    names: &[u8],
-    k: usize,
-    volume: &[u8],
-    s: usize,
-) -> io::Result<()> {
-    let w = sizes::board(width);
-    let p = 8 * w;
-    if volume.len() != 4 * p {
-        return Ok(());
+// A volume of four pages.
+fn four(board: Board, bytes: &[u8; 256]) -> Volume<'_>
+    ensures { result.page_count ≡ 4 }
+{
+    Volume {
+        width: board.width,
+        page_size: board.page_size(),
+        page_count: PAGES,
+        bytes: &bytes[..board.volume_size()],
     }
-    if 3 < s {
-        return Ok(());
-    }
-    print::label(rt, names, k)?;
-    match page::header::page_header(w, volume, p, 4, s) {
-        Header::Page(id) => print::number(rt, id.0)?,
-        Header::Invalid => print::word(rt, b"not valid")?,
-    }
-    print::end(rt)
-}
-
-// The least and the greatest valid ID.
-fn span(rt: &impl Print, width: usize, names: &[u8], k: usize, volume: &[u8]) -> io::Result<()> {
-    let w = sizes::board(width);
-    let p = 8 * w;
-    if volume.len() != 4 * p {
-        return Ok(());
-    }
-    print::label(rt, names, k)?;
-    match page::header::page_span(w, volume, p, 4) {
-        Span::Pages(oldest, newest) => {
-            print::number(rt, oldest.0)?;
-            print::number(rt, newest.0)?;
-        }
-        Span::Empty => print::word(rt, b"none")?,
-    }
-    print::end(rt)
 }
 
 // A header word, put into a slot of an erased volume and read back.
-fn alone(
-    rt: &impl Print,
-    width: usize,
-    names: &[u8],
-    k: usize,
-    s: u8,
-    id: usize,
-) -> io::Result<()> {
-    let mut volume = [255u8; 256];
-    build::word(width, &mut volume, count(width, s, 0, 0), id);
-    header(
-        rt,
-        width,
-        names,
-        k,
-        text::part(&volume, 0, sizes::volume_size(width)),
-        s as usize,
-    )
+fn header(on: &Cases<impl Print>, label: &str, slot: u8, id: usize) -> io::Result<()>
+    requires { slot < 4 }
+{
+    let board = on.board;
+    let mut volume = [255; 256];
+    board.word(&mut volume, board.count(slot, 0, 0), id);
+    match four(board, &volume).page_header(usize::from(slot)) {
+        Some(id) => on.line(label, id.0),
+        None => on.line(label, "not valid"),
+    }
 }
 
-// A volume whose bytes are all the same.
-fn uniform(rt: &impl Print, width: usize, names: &[u8], k: usize, byte: u8) -> io::Result<()> {
-    let volume = [byte; 256];
-    span(
-        rt,
-        width,
-        names,
-        k,
-        text::part(&volume, 0, sizes::volume_size(width)),
-    )
+// The least and the greatest valid ID of a volume.
+fn span(on: &Cases<impl Print>, label: &str, volume: &[u8; 256]) -> io::Result<()> {
+    match four(on.board, volume).page_span() {
+        Some(span) => on.line(label, format_args!("{} {}", span.oldest.0, span.newest.0)),
+        None => on.line(label, "none"),
+    }
 }
 
-// Four headers, in the slots' order.
-fn four(
-    rt: &impl Print,
-    width: usize,
-    names: &[u8],
-    k: usize,
-    a: usize,
-    b: usize,
-    c: usize,
-    d: usize,
-) -> io::Result<()> {
-    let mut volume = [255u8; 256];
-    build::slots(width, &mut volume, a, b, c, d);
-    span(
-        rt,
-        width,
-        names,
-        k,
-        text::part(&volume, 0, sizes::volume_size(width)),
-    )
-}
-
-// Headers that are page numbers, 255 for none.
-fn pages(
-    rt: &impl Print,
-    width: usize,
-    names: &[u8],
-    k: usize,
-    a: u8,
-    b: u8,
-    c: u8,
-    d: u8,
-) -> io::Result<()> {
-    four(
-        rt,
-        width,
-        names,
-        k,
-        build::first_id(width, a),
-        build::first_id(width, b),
-        build::first_id(width, c),
-        build::first_id(width, d),
-    )
-}
-
-fn headers(rt: &impl Print, width: usize, names: &[u8]) -> io::Result<()> {
-    let last = sizes::less(sizes::ceiling(width), sizes::page_size(width));
-    alone(rt, width, names, 0, 0, 0)?;
-    alone(rt, width, names, 1, 1, 0)?;
-    alone(rt, width, names, 2, 3, count(width, 7, 0, 0))?;
-    alone(rt, width, names, 3, 2, count(width, 7, 0, 0))?;
-    alone(rt, width, names, 4, 3, count(width, 7, 0, 1))?;
-    alone(rt, width, names, 5, 3, last)?;
-    alone(rt, width, names, 6, 0, sizes::ceiling(width))?;
-    alone(rt, width, names, 7, 3, sizes::largest_word(width))?;
-    uniform(rt, width, names, 8, 255)?;
-    uniform(rt, width, names, 9, 0)?;
-    pages(rt, width, names, 10, 4, 1, 255, 3)?;
-    pages(rt, width, names, 11, 4, 1, 7, 3)
-}
-
-pub(crate) fn cases(rt: &impl Print, width: usize) -> io::Result<()> {
-    headers(
-        rt,
-        width,
-        b"header 0 in slot 0
-header 0 in slot 1
-header 7P in slot 3
-header 7P in slot 2
-header 7P + 1 in slot 3
-header C - P in slot 3
-header C in slot 0
-header of ones in slot 3
-least and greatest of an erased volume
-least and greatest of a volume of zeros
-least and greatest of headers 4P, P, none, 3P
-least and greatest of headers 4P, P, 7P, 3P",
-    )
+// Headers that are valid and not, and volumes of them.
+pub(crate) fn cases(on: &Cases<impl Print>) -> io::Result<()> {
+    let board = on.board;
+    let p = board.page_size();
+    let ceiling = board.ceiling();
+    // What an erased page has in place of its header.
+    let none = board.largest_word();
+    header(on, "header 0 in slot 0", 0, 0)?;
+    header(on, "header 0 in slot 1", 1, 0)?;
+    header(on, "header 7P in slot 3", 3, 7 * p)?;
+    header(on, "header 7P in slot 2", 2, 7 * p)?;
+    header(on, "header 7P + 1 in slot 3", 3, 7 * p + 1)?;
+    header(on, "header C - P in slot 3", 3, ceiling - p)?;
+    header(on, "header C in slot 0", 0, ceiling)?;
+    header(on, "header of ones in slot 3", 3, none)?;
+    span(on, "least and greatest of an erased volume", &[255; 256])?;
+    span(on, "least and greatest of a volume of zeros", &[0; 256])?;
+    let three = volume::headers(board, [4 * p, p, none, 3 * p]);
+    let all = volume::headers(board, [4 * p, p, 7 * p, 3 * p]);
+    span(on, "least and greatest of headers 4P, P, none, 3P", &three)?;
+    span(on, "least and greatest of headers 4P, P, 7P, 3P", &all)
 }

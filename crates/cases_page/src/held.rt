@@ -1,110 +1,113 @@
 // The bytes at a position, the next entry and its length, with the append ID in page 1.
-use page::id::EntryID;
-use page_lookup::held::{EntryLength, Place};
-use std::io;
-use tool_print::sizes::{count, less, words};
-use tool_print::{build, print, sizes};
-use tool_script::text;
+ghost use Rattle.std.specs.Prelude.{◌≡◌, ◌*◌, ◌<◌, ◌≤◌, length};
 
-// Where reading from an ID goes on, and the length of the entry there.
-fn next<'a>(
-    rt: &impl Print,
-    width: usize,
+use page::id::EntryID;
+use page_lookup::held::{Pages, entry_length};
+use std::io;
+use tool_print::board::Board;
+use tool_print::print::Cases;
+
+// What is looked at: page 0 on flash, page 1 in the buffer, and the append ID.
+#[derive(Clone, Copy)]
+struct Look<'a> {
+    board: Board,
     volume: &'a [u8],
     buffer: &'a [u8],
-    a: usize,
-    r: usize,
-) -> io::Result<()> {
-    let w = sizes::board(width);
-    let p = 8 * w;
-    if volume.len() != 4 * p {
-        return Ok(());
-    }
-    if buffer.len() != p {
-        return Ok(());
-    }
-    if a == 0 {
-        return Ok(());
-    }
-    if 20000 < r {
-        return Ok(());
-    }
-    print::label(rt, b"append ID, read ID, place, length", 0)?;
-    print::number(rt, a)?;
-    print::number(rt, r)?;
-    match page_lookup::held::get_next_entry(w, volume, buffer, p, EntryID(a), EntryID(r)) {
-        Place::End => print::word(rt, b"end")?,
-        Place::At(id) => {
-            print::number(rt, id.0)?;
-            let data = page_lookup::held::get_entry(w, volume, buffer, p, EntryID(a), id);
-            match page_lookup::held::entry_length(data) {
-                EntryLength::Bad => print::word(rt, b"bad")?,
-                EntryLength::Is(n) => print::number(rt, n)?,
-            }
+    append: usize,
+    ghost volume_fits: { length volume.now ≡ 32 * board.width },
+    ghost buffer_fits: { length buffer.now ≡ 8 * board.width },
+    ghost appended: { 0 < append },
+}
+
+impl<'a> Look<'a> {
+    // Pages of the board, each at the front of some bytes.
+    fn new(board: Board, volume: &'a [u8; 256], buffer: &'a [u8; 64], append: usize) -> Self
+        requires { 0 < append }
+        ensures { result.append ≡ append }
+    {
+        Look {
+            board,
+            volume: &volume[..board.volume_size()],
+            buffer: &buffer[..board.page_size()],
+            append,
         }
     }
-    print::end(rt)
+
+    // The pages that are lent.
+    fn pages(self) -> Pages<'a>
+        ensures { (result.width ≡ self.entry.board.width) × (result.page_size ≡ 8 * self.entry.board.width) }
+    {
+        Pages {
+            width: self.board.width,
+            volume: self.volume,
+            pagebuffer: self.buffer,
+            page_size: self.board.page_size(),
+            append_entry_id: EntryID(self.append),
+        }
+    }
+
+    // The byte at a position.
+    fn byte(self, position: usize) -> u8 {
+        self.pages().get_byte(EntryID(position))
+    }
+
+    // Where reading from an ID goes on.
+    fn next(self, read: usize) -> Option<EntryID>
+        requires { read ≤ 20000 }
+    {
+        self.pages().get_next_entry(EntryID(read))
+    }
+
+    // The length of the entry at an ID, from its header.
+    fn length(self, id: EntryID) -> Option<usize> {
+        entry_length(self.pages().get_entry(id))
+    }
 }
 
-fn byte<'a>(
-    rt: &impl Print,
-    width: usize,
-    volume: &'a [u8],
-    buffer: &'a [u8],
-    a: usize,
-    pos: usize,
-) -> io::Result<()> {
-    let w = sizes::board(width);
-    let p = 8 * w;
-    if volume.len() != 4 * p {
-        return Ok(());
-    }
-    if buffer.len() != p {
-        return Ok(());
-    }
-    if a == 0 {
-        return Ok(());
-    }
-    print::label(rt, b"append ID, position, byte", 0)?;
-    print::number(rt, a)?;
-    print::number(rt, pos)?;
-    let b = page_lookup::held::get_byte(volume, buffer, p, EntryID(a), EntryID(pos));
-    print::number(rt, b as usize)?;
-    print::end(rt)
+// A line with the byte at a position.
+fn byte(on: &Cases<impl Print>, look: Look<'_>, position: usize) -> io::Result<()> {
+    let value = format_args!("{} {position} {}", look.append, look.byte(position));
+    on.line("append ID, position, byte", value)
 }
 
-// `two` is the start of page 2, where page 1 ends.
-fn looks<'a>(rt: &impl Print, width: usize, volume: &'a [u8], buffer: &'a [u8]) -> io::Result<()> {
-    let first = count(width, 0, 1, 0);
-    let second = count(width, 1, 1, 0);
-    let middle = count(width, 1, 2, 3);
-    let two = count(width, 2, 0, 0);
-    byte(rt, width, volume, buffer, middle, first)?;
-    byte(rt, width, volume, buffer, middle, second)?;
-    byte(rt, width, volume, buffer, two, second)?;
-    byte(rt, width, volume, buffer, count(width, 1, 0, 0), first)?;
-    next(rt, width, volume, buffer, middle, 0)?;
-    next(rt, width, volume, buffer, middle, first)?;
-    next(rt, width, volume, buffer, middle, words(width, 7))?;
-    next(rt, width, volume, buffer, middle, middle)?;
-    next(rt, width, volume, buffer, two, middle)?;
-    next(rt, width, volume, buffer, two, two)?;
-    next(rt, width, volume, buffer, two, words(width, 2))?;
-    next(rt, width, volume, buffer, two, less(two, 2))
+// A line with the place of the next entry and its length.
+fn next(on: &Cases<impl Print>, look: Look<'_>, read: usize) -> io::Result<()>
+    requires { read ≤ 20000 }
+{
+    let append = look.append;
+    let label = "append ID, read ID, place, length";
+    let Some(id) = look.next(read) else {
+        return on.line(label, format_args!("{append} {read} end"));
+    };
+    match look.length(id) {
+        Some(n) => on.line(label, format_args!("{append} {read} {} {n}", id.0)),
+        None => on.line(label, format_args!("{append} {read} {} bad", id.0)),
+    }
 }
 
-// Page 0 with an entry of P - 3w on flash; page 1 in the buffer, with an entry of 3 and one to its end.
-pub(crate) fn cases(rt: &impl Print, width: usize) -> io::Result<()> {
-    let mut volume = [255u8; 256];
-    build::page(width, &mut volume, 0, 0, words(width, 5));
-    let mut buffer = [0u8; 64];
-    build::header(width, &mut buffer, count(width, 1, 0, 0));
-    let at = build::sevens(width, &mut buffer, words(width, 1), 3);
-    build::sevens(width, &mut buffer, at, less(words(width, 5), 3));
-    looks(
-        rt,
-        width,
-        text::part(&volume, 0, sizes::volume_size(width)),
-        text::part(&buffer, 0, sizes::page_size(width)),
-    )
+// Page 0 has an entry of P - 3w, page 1 one of 3 and one to its end.
+pub(crate) fn cases(on: &Cases<impl Print>) -> io::Result<()> {
+    let board = on.board;
+    let mut volume = [255; 256];
+    board.page(&mut volume, 0, board.words(5));
+    let mut buffer = [0; 64];
+    board.page(&mut buffer, board.page_size(), 3);
+    board.sevens(&mut buffer, board.count(0, 2, 3), board.words(5) - 3);
+    let middle = Look::new(board, &volume, &buffer, board.count(1, 2, 3));
+    let two = Look::new(board, &volume, &buffer, board.count(2, 0, 0));
+    let one = Look::new(board, &volume, &buffer, board.page_size());
+    let first = board.words(1);
+    let second = board.count(1, 1, 0);
+    byte(on, middle, first)?;
+    byte(on, middle, second)?;
+    byte(on, two, second)?;
+    byte(on, one, first)?;
+    next(on, middle, 0)?;
+    next(on, middle, first)?;
+    next(on, middle, board.words(7))?;
+    next(on, middle, middle.append)?;
+    next(on, two, middle.append)?;
+    next(on, two, two.append)?;
+    next(on, two, board.words(2))?;
+    next(on, two, two.append - 2)
 }

@@ -1,59 +1,60 @@
 // Pages, offsets, slots, rounding up, and the overwritten page.
-use page::id::{EntryID, PageNumber};
+ghost use Rattle.std.specs.Prelude.{◌+◌, ◌*◌, ◌≤◌};
+ghost use Rattle.page.specs.Sizes.{ceiling};
+
+use page::id::{EntryID, page_number, page_offset, page_slot, round_up};
 use std::io;
-use tool_print::sizes::count;
-use tool_print::{print, sizes};
+use tool_print::board::PAGES;
+use tool_print::print::Cases;
 
-fn ids(rt: &impl Print, width: usize, id: usize) -> io::Result<()> {
-    if sizes::ceiling(width) < id {
-        return Ok(());
-    }
-    let p = sizes::page_size(width);
-    let k = page::id::page_number(EntryID(id), p);
-    print::label(rt, b"id, page, offset, slot, rounded up", 0)?;
-    print::number(rt, id)?;
-    print::number(rt, k.0)?;
-    print::number(rt, page::id::page_offset(EntryID(id), p))?;
-    print::number(rt, page::id::page_slot(k, 4))?;
-    let up = page::id::round_up(EntryID(id), p);
-    print::number(rt, up.0)?;
-    print::end(rt)
+// What an ID says.
+fn id(on: &Cases<impl Print>, id: usize) -> io::Result<()>
+    requires { id ≤ 8070450532247928832 }
+{
+    let page_size = on.board.page_size();
+    let page = page_number(EntryID(id), page_size);
+    let offset = page_offset(EntryID(id), page_size);
+    let slot = page_slot(page, PAGES);
+    let up = round_up(EntryID(id), page_size);
+    let value = format_args!("{id} {} {offset} {slot} {}", page.0, up.0);
+    on.line("id, page, offset, slot, rounded up", value)
 }
 
-fn overwritten(rt: &impl Print, width: usize, k: usize) -> io::Result<()> {
-    let w = sizes::board(width);
-    let p = 8 * w;
-    if page::header::ceiling(w) / p <= k {
-        return Ok(());
-    }
-    print::label(rt, b"page, overwritten page", 0)?;
-    print::number(rt, k)?;
-    let over = page::overwritten::overwritten_page(w, PageNumber(k), p, 4 * p);
-    print::number(rt, over.0)?;
-    print::end(rt)
+// A page, by its own first ID, and the one that it overwrites.
+fn overwritten(on: &Cases<impl Print>, first: usize) -> io::Result<()>
+    requires { first + 8 * on.now.board.width ≤ ceiling on.now.board.width }
+{
+    let board = on.board;
+    let page_size = board.page_size();
+    let page = page_number(EntryID(first), page_size);
+    let over = page::overwritten::overwritten_page(
+        board.width,
+        page,
+        page_size,
+        board.volume_size(),
+    );
+    on.line(
+        "page, overwritten page",
+        format_args!("{} {}", page.0, over.0),
+    )
 }
 
-// The last page below the ceiling.
-fn last_page(width: usize) -> usize {
-    sizes::less(sizes::ceiling(width) / sizes::page_size(width), 1)
-}
-
-pub(crate) fn cases(rt: &impl Print, width: usize) -> io::Result<()> {
-    ids(rt, width, 0)?;
-    ids(rt, width, count(width, 0, 1, 0))?;
-    ids(rt, width, sizes::less(count(width, 1, 0, 0), 1))?;
-    ids(rt, width, count(width, 1, 0, 0))?;
-    ids(rt, width, count(width, 1, 0, 1))?;
-    ids(rt, width, count(width, 4, 4, 1))?;
-    ids(
-        rt,
-        width,
-        sizes::less(sizes::ceiling(width), count(width, 1, 0, 0)),
-    )?;
-    ids(rt, width, sizes::ceiling(width))?;
-    overwritten(rt, width, 0)?;
-    overwritten(rt, width, 3)?;
-    overwritten(rt, width, 4)?;
-    overwritten(rt, width, 5)?;
-    overwritten(rt, width, last_page(width))
+// IDs at the ends of pages, and pages in the first laps and the last.
+pub(crate) fn cases(on: &Cases<impl Print>) -> io::Result<()> {
+    let board = on.board;
+    let page_size = board.page_size();
+    let ceiling = board.ceiling();
+    id(on, 0)?;
+    id(on, board.count(0, 1, 0))?;
+    id(on, page_size - 1)?;
+    id(on, page_size)?;
+    id(on, page_size + 1)?;
+    id(on, board.count(4, 4, 1))?;
+    id(on, ceiling - page_size)?;
+    id(on, ceiling)?;
+    overwritten(on, 0)?;
+    overwritten(on, 3 * page_size)?;
+    overwritten(on, 4 * page_size)?;
+    overwritten(on, 5 * page_size)?;
+    overwritten(on, ceiling - page_size)
 }

@@ -7,22 +7,26 @@ mod held;
 mod id;
 mod restart;
 mod survey;
+mod volume;
 mod walk;
 
 use std::io;
-use tool_print::print;
-
-fn cases(rt: &impl Print, width: usize) -> io::Result<()> {
-    print::line(rt, b"w", 0, width)?;
-    id::cases(rt, width)?;
-    walk::cases(rt, width)?;
-    header::cases(rt, width)?;
-    held::cases(rt, width)?;
-    restart::cases(rt, width)?;
-    survey::cases(rt, width)
-}
+use tool_print::board::Board;
+use tool_print::print::Cases;
 
 fn main(rt: HostRuntime) -> io::Result<()> {
-    cases(&rt, 4)?;
-    cases(&rt, 8)
+    for width in [4, 8] {
+        let on = Cases {
+            rt: &rt,
+            board: Board::new(width),
+        };
+        on.line("w", width)?;
+        id::cases(&on)?;
+        walk::cases(&on)?;
+        header::cases(&on)?;
+        held::cases(&on)?;
+        restart::cases(&on)?;
+        survey::cases(&on)?;
+    }
+    Ok(())
 }

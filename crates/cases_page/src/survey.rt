@@ -1,235 +1,94 @@
-// Surveys of a volume, and the capacity. `names` has a line for each case.
-use crate::restart::{four, of_pages};
-use engine_restart::restart::Restarted;
-use engine_restart::survey::Surveyed;
-use engine_state::get::Capacity;
+// Surveys of a volume, and the capacity.
+ghost use Rattle.std.specs.Prelude.{◌≤◌};
+
+use crate::restart::{of_pages, restarted};
+use crate::volume;
+use engine_restart::board_word::Word;
+use engine_restart::survey;
+use engine_state::answer::Answer;
+use engine_state::get::get_size;
+use engine_state::state::Geometry;
 use std::io;
-use tool_print::build::first_id;
-use tool_print::sizes::less;
-use tool_print::{build, print, sizes};
-use tool_script::text;
+use tool_print::board::{Board, PAGES};
+use tool_print::print::Cases;
+use tool_script::trace::IDs;
 
-fn wide(word: u64) -> usize {
-    word as usize
-}
-
-fn words(rt: &impl Print, ids: &[u64]) -> io::Result<()> {
-    let mut i: usize = 0;
-    while i < ids.len() {
-        let id = ids[i];
-        print::number(rt, wide(id))?;
-        i += 1;
-    }
-    Ok(())
-}
-
-// A survey: its answer, the count, and the slice.
+// A survey into a slice of so many words: its answer, the count, and the slice.
 fn survey(
-    rt: &impl Print,
-    width: usize,
-    names: &[u8],
-    k: usize,
-    pages: usize,
+    on: &Cases<impl Print>,
+    label: &str,
+    page_count: usize,
     volume: &[u8],
-    ids: &mut [u64],
-) -> io::Result<()> {
-    print::label(rt, names, k)?;
-    match tool_script::survey::survey(width, of_pages(width, pages), volume, ids) {
-        Surveyed::Shape => print::number(rt, 20)?,
-        Surveyed::Size => print::number(rt, 7)?,
-        Surveyed::Count(n) => {
-            print::number(rt, 0)?;
-            print::number(rt, n)?;
-        }
+    words: usize,
+) -> io::Result<()>
+    requires { words ≤ 4 }
+{
+    let geometry = of_pages(on.board, page_count);
+    if on.board.width == 8 {
+        return into(on, label, geometry, volume, &mut [7u64; 4][..words]);
     }
-    words(rt, ids)?;
-    print::end(rt)
+    into(on, label, geometry, volume, &mut [7u32; 4][..words])
 }
 
-// A survey of so many pages in so many bytes, with a slice of n.
-fn of_bytes(
-    rt: &impl Print,
-    width: usize,
-    names: &[u8],
-    k: usize,
-    pages: usize,
-    bytes: &[u8],
-    size: usize,
-    n: usize,
+fn into<W: Word>(
+    on: &Cases<impl Print>,
+    label: &str,
+    geometry: Geometry,
+    volume: &[u8],
+    ids: &mut [W],
 ) -> io::Result<()> {
-    let mut ids = [7u64; 4];
-    survey(
-        rt,
-        width,
-        names,
-        k,
-        pages,
-        text::part(bytes, 0, size),
-        text::front_u64(&mut ids, n),
-    )
+    match survey::survey(geometry, volume, ids) {
+        Ok(n) => on.line(label, format_args!("0 {n}{}", IDs(ids))),
+        Err(answer) => on.line(label, format_args!("{}{}", u8::from(answer), IDs(ids))),
+    }
 }
 
-// Four headers, in the slots' order, and a slice of 4, of 2 and of none.
-fn headers(
-    rt: &impl Print,
-    width: usize,
-    names: &[u8],
-    k: usize,
-    a: usize,
-    b: usize,
-    c: usize,
-    d: usize,
-) -> io::Result<()> {
-    let mut volume = [255u8; 256];
-    build::slots(width, &mut volume, a, b, c, d);
-    let size = sizes::volume_size(width);
-    of_bytes(rt, width, names, k, 4, &volume, size, 4)?;
-    of_bytes(rt, width, names, 4, 4, &volume, size, 2)?;
-    of_bytes(rt, width, names, 5, 4, &volume, size, 0)
-}
-
-// The same by the pages' numbers, 255 for none.
-fn pages(
-    rt: &impl Print,
-    width: usize,
-    names: &[u8],
-    k: usize,
-    a: u8,
-    b: u8,
-    c: u8,
-    d: u8,
-) -> io::Result<()> {
-    headers(
-        rt,
-        width,
-        names,
-        k,
-        first_id(width, a),
-        first_id(width, b),
-        first_id(width, c),
-        first_id(width, d),
-    )
-}
-
-// Three pages, which is no power of two.
-fn three(
-    rt: &impl Print,
-    width: usize,
-    names: &[u8],
-    k: usize,
-    a: u8,
-    b: u8,
-    c: u8,
-) -> io::Result<()> {
-    let mut volume = [255u8; 256];
-    let none = first_id(width, 255);
-    build::slots(
-        width,
-        &mut volume,
-        first_id(width, a),
-        first_id(width, b),
-        first_id(width, c),
-        none,
-    );
-    let size = less(sizes::volume_size(width), sizes::page_size(width));
-    of_bytes(rt, width, names, k, 3, &volume, size, 4)
-}
-
-// A volume that is too short.
-fn short(rt: &impl Print, width: usize, names: &[u8], k: usize) -> io::Result<()> {
-    let volume = [0u8; 256];
-    of_bytes(
-        rt,
-        width,
-        names,
-        k,
-        4,
-        &volume,
-        less(sizes::volume_size(width), 1),
-        4,
-    )
+// A survey of four pages with these headers, in the slots' order, and a slice of 4, of 2 and of none.
+fn headers(on: &Cases<impl Print>, label: &str, ids: [usize; 4]) -> io::Result<()> {
+    let volume = volume::headers(on.board, ids);
+    let volume = &volume[..on.board.volume_size()];
+    survey(on, label, PAGES, volume, 4)?;
+    survey(on, "  into two", PAGES, volume, 2)?;
+    survey(on, "  into none", PAGES, volume, 0)
 }
 
 // The capacity of a log on an erased volume.
-fn capacity_of(
-    rt: &impl Print,
-    width: usize,
-    volume: &[u8],
-    page: &mut [u8],
-    hold: &[u8],
-) -> io::Result<()> {
-    match engine_restart::restart::restart(
-        width,
-        four(width),
-        true,
-        false,
-        false,
-        volume,
-        page,
-        hold,
-    ) {
-        Restarted::Shape => print::number(rt, 20),
-        Restarted::Log(log) => match engine_state::get::get_size(width, log) {
-            Capacity::Bytes(n) => print::number(rt, n),
-            Capacity::Shape => print::number(rt, 20),
-        },
+fn capacity(board: Board) -> Result<usize, Answer> {
+    let volume = &[255; 256][..board.volume_size()];
+    let four = of_pages(board, PAGES);
+    get_size(restarted(board, four, true, false, volume, &mut [0; 64])?)
+}
+
+// Surveys of four pages, of three, and of too few bytes, and the capacity.
+pub(crate) fn cases(on: &Cases<impl Print>) -> io::Result<()> {
+    let board = on.board;
+    let p = board.page_size();
+    let c = board.ceiling();
+    let none = board.largest_word();
+    for (label, ids) in [
+        ("survey of an erased volume", [none; 4]),
+        ("survey of headers 4P, P, none, 3P", [4 * p, p, none, 3 * p]),
+        ("survey of headers 0, P, 2P, 3P", [0, p, 2 * p, 3 * p]),
+        ("survey of headers C, 0, 0, C - P", [c, 0, 0, c - p]),
+        (
+            "survey of headers 4P, 5P, 2P, 3P",
+            [4 * p, 5 * p, 2 * p, 3 * p],
+        ),
+        (
+            "survey of headers 12P, 9P, 6P, 3P",
+            [12 * p, 9 * p, 6 * p, 3 * p],
+        ),
+        ("survey of headers 0, 4P, 2P, 3P", [0, 4 * p, 2 * p, 3 * p]),
+    ] {
+        headers(on, label, ids)?;
     }
-}
-
-fn capacity(rt: &impl Print, width: usize, names: &[u8], k: usize) -> io::Result<()> {
-    let volume = [255u8; 256];
-    let mut page = [0u8; 64];
-    let hold = [0u8; 64];
-    let p = sizes::page_size(width);
-    print::label(rt, names, k)?;
-    capacity_of(
-        rt,
-        width,
-        text::part(&volume, 0, sizes::volume_size(width)),
-        text::front(&mut page, p),
-        text::part(&hold, 0, p),
-    )?;
-    print::end(rt)
-}
-
-fn surveys(rt: &impl Print, width: usize, names: &[u8]) -> io::Result<()> {
-    let c = sizes::ceiling(width);
-    pages(rt, width, names, 0, 255, 255, 255, 255)?;
-    pages(rt, width, names, 1, 4, 1, 255, 3)?;
-    pages(rt, width, names, 2, 0, 1, 2, 3)?;
-    headers(
-        rt,
-        width,
-        names,
-        3,
-        c,
-        0,
-        0,
-        less(c, sizes::page_size(width)),
-    )?;
-    pages(rt, width, names, 8, 4, 5, 2, 3)?;
-    pages(rt, width, names, 9, 12, 9, 6, 3)?;
-    pages(rt, width, names, 10, 0, 4, 2, 3)?;
-    three(rt, width, names, 11, 9, 4, 2)?;
-    short(rt, width, names, 6)?;
-    capacity(rt, width, names, 7)
-}
-
-pub(crate) fn cases(rt: &impl Print, width: usize) -> io::Result<()> {
-    surveys(
-        rt,
-        width,
-        b"survey of an erased volume
-survey of headers 4P, P, none, 3P
-survey of headers 0, P, 2P, 3P
-survey of headers C, 0, 0, C - P
-  into two
-  into none
-survey of L - 1 bytes
-get_size
-survey of headers 4P, 5P, 2P, 3P
-survey of headers 12P, 9P, 6P, 3P
-survey of headers 0, 4P, 2P, 3P
-survey of headers 9P, 4P, 2P in three pages",
-    )
+    let label = "survey of headers 9P, 4P, 2P in three pages";
+    let three = volume::headers(board, [9 * p, 4 * p, 2 * p, none]);
+    survey(on, label, 3, &three[..3 * p], 4)?;
+    let short = &[0; 256][..4 * p - 1];
+    survey(on, "survey of L - 1 bytes", PAGES, short, 4)?;
+    match capacity(board) {
+        Ok(n) => on.line("get_size", n),
+        Err(answer) => on.line("get_size", u8::from(answer)),
+    }
 }

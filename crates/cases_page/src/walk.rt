@@ -1,107 +1,64 @@
-// Walks of a page. `names` has a line for each.
+// Walks of a page.
 use std::io;
-use tool_print::sizes::{less, words};
-use tool_print::{build, print, sizes};
-use tool_script::text;
+use tool_print::board::Board;
+use tool_print::print::Cases;
 
-fn walk(rt: &impl Print, width: usize, names: &[u8], k: usize, page: &[u8]) -> io::Result<()> {
-    let w = sizes::board(width);
-    print::line(rt, names, k, page::walk::walk(w, page))
+// Where the walk of the page at the front of some bytes stops.
+fn walk(board: Board, bytes: &[u8; 64]) -> usize {
+    page::walk::walk(board.width, &bytes[..board.page_size()])
 }
 
-// A walk of a page at the front of some bytes.
-fn front(rt: &impl Print, width: usize, names: &[u8], k: usize, bytes: &[u8]) -> io::Result<()> {
-    walk(
-        rt,
-        width,
-        names,
-        k,
-        text::part(bytes, 0, sizes::page_size(width)),
-    )
-}
-
-// A page whose bytes are all the same.
-fn uniform(rt: &impl Print, width: usize, names: &[u8], k: usize, byte: u8) -> io::Result<()> {
-    let page = [byte; 64];
-    front(rt, width, names, k, &page)
-}
-
-// A page with one entry, and a second one unless its length is 0.
-fn entries(
-    rt: &impl Print,
-    width: usize,
-    names: &[u8],
-    k: usize,
-    n: usize,
-    m: usize,
-) -> io::Result<()> {
-    let mut page = [0u8; 64];
-    let at = build::sevens(width, &mut page, words(width, 1), n);
-    build::sevens(width, &mut page, at, m);
-    front(rt, width, names, k, &page)
+// A page with one entry, and a second one where its length fits.
+fn entries(board: Board, n: usize, m: usize) -> usize {
+    let mut page = [0; 64];
+    let at = board.sevens(&mut page, board.words(1), n);
+    board.sevens(&mut page, at, m);
+    walk(board, &page)
 }
 
 // A page with one entry and its tail padded.
-fn padded(rt: &impl Print, width: usize, names: &[u8], k: usize, n: usize) -> io::Result<()> {
-    let mut page = [0u8; 64];
-    let at = build::sevens(width, &mut page, words(width, 1), n);
+fn padded(board: Board, n: usize) -> [u8; 64] {
+    let mut page = [0; 64];
+    let at = board.sevens(&mut page, board.words(1), n);
     page::layout::pad(&mut page, at);
-    front(rt, width, names, k, &page)?;
-    print::bytes(
-        rt,
-        b"that page",
-        0,
-        text::part(&page, 0, sizes::page_size(width)),
-    )
+    page
 }
 
 // An entry of 3 bytes, then a length word.
-fn then(rt: &impl Print, width: usize, names: &[u8], k: usize, word: usize) -> io::Result<()> {
-    let mut page = [255u8; 64];
-    let at = build::sevens(width, &mut page, words(width, 1), 3);
-    build::word(width, &mut page, at, word);
-    front(rt, width, names, k, &page)
+fn then(board: Board, word: usize) -> usize {
+    let mut page = [255; 64];
+    let at = board.sevens(&mut page, board.words(1), 3);
+    board.word(&mut page, at, word);
+    walk(board, &page)
 }
 
 // An entry that ends 2 bytes before the page's end.
-fn near_the_end(rt: &impl Print, width: usize, names: &[u8], k: usize) -> io::Result<()> {
-    let mut page = [1u8; 64];
-    build::word(width, &mut page, words(width, 1), less(words(width, 6), 2));
-    front(rt, width, names, k, &page)
+fn near_the_end(board: Board) -> usize {
+    let mut page = [1; 64];
+    board.word(&mut page, board.words(1), board.words(6) - 2);
+    walk(board, &page)
 }
 
-fn walks(rt: &impl Print, width: usize, names: &[u8]) -> io::Result<()> {
-    entries(rt, width, names, 0, words(width, 6), 0)?;
-    entries(rt, width, names, 1, 5, less(words(width, 5), 5))?;
-    padded(rt, width, names, 2, words(width, 5))?;
-    uniform(rt, width, names, 3, 0)?;
-    uniform(rt, width, names, 4, 255)?;
-    then(rt, width, names, 5, sizes::largest_word(width))?;
-    then(rt, width, names, 6, 0)?;
-    then(rt, width, names, 7, less(words(width, 5), 2))?;
-    then(rt, width, names, 8, less(words(width, 5), 3))?;
-    then(rt, width, names, 9, less(sizes::largest_word(width), 11))?;
-    then(rt, width, names, 10, 256)?;
-    near_the_end(rt, width, names, 11)?;
-    walk(rt, width, names, 12, &[1, 1, 1])
-}
-
-pub(crate) fn cases(rt: &impl Print, width: usize) -> io::Result<()> {
-    walks(
-        rt,
-        width,
-        b"walk of P - 2w
-walk of 5, then to the end
-walk of P - 3w, padded by w
-walk of zeros
-walk of an erased page
-walk of 3, then padding
-walk of 3, then a zero
-walk of 3, then one byte too long
-walk of 3, then to the end
-walk of 3, then a length that would wrap
-walk of 3, then a length of 256
-walk to where no length word fits
-walk of 3 bytes",
-    )
+// All of these.
+pub(crate) fn cases(on: &Cases<impl Print>) -> io::Result<()> {
+    let board = on.board;
+    let left = board.words(5);
+    on.line("walk of P - 2w", entries(board, board.words(6), 0))?;
+    on.line("walk of 5, then to the end", entries(board, 5, left - 5))?;
+    let page = padded(board, left);
+    on.line("walk of P - 3w, padded by w", walk(board, &page))?;
+    on.bytes("that page", &page[..board.page_size()])?;
+    on.line("walk of zeros", walk(board, &[0; 64]))?;
+    on.line("walk of an erased page", walk(board, &[255; 64]))?;
+    let largest = board.largest_word();
+    on.line("walk of 3, then padding", then(board, largest))?;
+    on.line("walk of 3, then a zero", then(board, 0))?;
+    on.line("walk of 3, then one byte too long", then(board, left - 2))?;
+    on.line("walk of 3, then to the end", then(board, left - 3))?;
+    let wraps = "walk of 3, then a length that would wrap";
+    on.line(wraps, then(board, largest - 11))?;
+    on.line("walk of 3, then a length of 256", then(board, 256))?;
+    on.line("walk to where no length word fits", near_the_end(board))?;
+    let three = page::walk::walk(board.width, &[1, 1, 1]);
+    on.line("walk of 3 bytes", three)
 }

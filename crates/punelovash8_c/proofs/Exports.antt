@@ -1,71 +1,78 @@
--- What a caller of an export learns is what a caller learns of the function that it calls: no clause is weaker here.
-use Rattle.punelovash8.proofs.calls.punelovash8_append.Reads as append
+-- What a caller of an export learns is what a caller learns of the function at any word of 8 bytes: no clause is weaker here.
+use Rattle.std.proofs.Common.{◌≡◌, ℕ, map-id, w64}
+use denote.RattleType.{RattleType}
+use denote.Plain.{UInt}
+use Rattle.engine_restart.specs.declared.board_word.Word.{Ghosts}
+use Rattle.punelovash_block.proofs.calls.append.Reads as append
 use Rattle.punelovash8_c.proofs.calls.punelovash8_append.Reads as append-c
-use Rattle.punelovash8.proofs.calls.punelovash8_read.Reads as read
+use Rattle.punelovash_block.proofs.calls.read.Reads as read
 use Rattle.punelovash8_c.proofs.calls.punelovash8_read.Reads as read-c
-use Rattle.punelovash8.proofs.calls.punelovash8_seek.Reads as seek
+use Rattle.punelovash_block.proofs.calls.seek.Reads as seek
 use Rattle.punelovash8_c.proofs.calls.punelovash8_seek.Reads as seek-c
-use Rattle.punelovash8.proofs.calls.punelovash8_sync.Reads as sync
+use Rattle.punelovash_block.proofs.calls.sync.Reads as sync
 use Rattle.punelovash8_c.proofs.calls.punelovash8_sync.Reads as sync-c
-use Rattle.punelovash8.proofs.calls.punelovash8_erase.Reads as erase
+use Rattle.punelovash_block.proofs.calls.erase.Reads as erase
 use Rattle.punelovash8_c.proofs.calls.punelovash8_erase.Reads as erase-c
-use Rattle.punelovash8.proofs.calls.punelovash8_write_complete.Reads as write_complete
+use Rattle.punelovash_block.proofs.calls.write_complete.Reads as write_complete
 use Rattle.punelovash8_c.proofs.calls.punelovash8_write_complete.Reads as write_complete-c
-use Rattle.punelovash8.proofs.calls.punelovash8_erase_complete.Reads as erase_complete
+use Rattle.punelovash_block.proofs.calls.erase_complete.Reads as erase_complete
 use Rattle.punelovash8_c.proofs.calls.punelovash8_erase_complete.Reads as erase_complete-c
-use Rattle.punelovash8.proofs.calls.punelovash8_deferred_call.Reads as deferred_call
+use Rattle.punelovash_block.proofs.calls.deferred_call.Reads as deferred_call
 use Rattle.punelovash8_c.proofs.calls.punelovash8_deferred_call.Reads as deferred_call-c
-use Rattle.punelovash8.proofs.get.punelovash8_log_start.Reads as log_start
+use Rattle.punelovash_block.proofs.get.log_start.Reads as log_start
 use Rattle.punelovash8_c.proofs.get.punelovash8_log_start.Reads as log_start-c
-use Rattle.punelovash8.proofs.get.punelovash8_log_end.Reads as log_end
+use Rattle.punelovash_block.proofs.get.log_end.Reads as log_end
 use Rattle.punelovash8_c.proofs.get.punelovash8_log_end.Reads as log_end-c
-use Rattle.punelovash8.proofs.get.punelovash8_next_read_entry_id.Reads as next_read_entry_id
+use Rattle.punelovash_block.proofs.get.next_read_entry_id.Reads as next_read_entry_id
 use Rattle.punelovash8_c.proofs.get.punelovash8_next_read_entry_id.Reads as next_read_entry_id-c
-use Rattle.punelovash8.proofs.get.punelovash8_get_size.Reads as get_size
+use Rattle.punelovash_block.proofs.get.get_size.Reads as get_size
 use Rattle.punelovash8_c.proofs.get.punelovash8_get_size.Reads as get_size-c
-use Rattle.punelovash8.proofs.restart.punelovash8_restart.Reads as restart
+use Rattle.punelovash_block.proofs.restart.restart.Reads as restart
 use Rattle.punelovash8_c.proofs.restart.punelovash8_restart.Reads as restart-c
-use Rattle.punelovash8.proofs.survey.punelovash8_survey.Reads as survey
+use Rattle.punelovash_block.proofs.survey.survey.Reads as survey
 use Rattle.punelovash8_c.proofs.survey.punelovash8_survey.Reads as survey-c
 
-pub append_same : (κs a r s : _) → append-c.Learnt κs a r s → append.Learnt κs a r s
-append_same κs a r s e = e
+module _ {T : RattleType} (W : Ghosts T.Denot) (w : W.WIDTH ≡ 8) where
+  pub append_same : (L C D E F κs κs' a r s : _) → append-c.Learnt κs a r s → append.Learnt T L C W D E F κs' a r s
+  append_same L C D E F κs κs' a r s e = rw w e
 
-pub read_same : (κs a r s : _) → read-c.Learnt κs a r s → read.Learnt κs a r s
-read_same κs a r s e = e
+  pub read_same : (L C D E F κs κs' a r s : _) → read-c.Learnt κs a r s → read.Learnt T L C W D E F κs' a r s
+  read_same L C D E F κs κs' a r s e = rw w e
 
-pub seek_same : (κs a r s : _) → seek-c.Learnt κs a r s → seek.Learnt κs a r s
-seek_same κs a r s e = e
+  pub seek_same : (L C D E F κs κs' a r s : _) → seek-c.Learnt κs a r s → seek.Learnt T L C W D E F κs' a r s
+  seek_same L C D E F κs κs' a r s e = rw w e
 
-pub sync_same : (κs a r s : _) → sync-c.Learnt κs a r s → sync.Learnt κs a r s
-sync_same κs a r s e = e
+  pub sync_same : (L C D E F κs κs' a r s : _) → sync-c.Learnt κs a r s → sync.Learnt T L C W D E F κs' a r s
+  sync_same L C D E F κs κs' a r s e = rw w e
 
-pub erase_same : (κs a r s : _) → erase-c.Learnt κs a r s → erase.Learnt κs a r s
-erase_same κs a r s e = e
+  pub erase_same : (L C D E F κs κs' a r s : _) → erase-c.Learnt κs a r s → erase.Learnt T L C W D E F κs' a r s
+  erase_same L C D E F κs κs' a r s e = rw w e
 
-pub write_complete_same : (κs a r s : _) → write_complete-c.Learnt κs a r s → write_complete.Learnt κs a r s
-write_complete_same κs a r s e = e
+  pub write_complete_same : (L C D E F κs κs' a r s : _) → write_complete-c.Learnt κs a r s → write_complete.Learnt T L C W D E F κs' a r s
+  write_complete_same L C D E F κs κs' a r s e = rw w e
 
-pub erase_complete_same : (κs a r s : _) → erase_complete-c.Learnt κs a r s → erase_complete.Learnt κs a r s
-erase_complete_same κs a r s e = e
+  pub erase_complete_same : (L C D E F κs κs' a r s : _) → erase_complete-c.Learnt κs a r s → erase_complete.Learnt T L C W D E F κs' a r s
+  erase_complete_same L C D E F κs κs' a r s e = rw w e
 
-pub deferred_call_same : (κs a r s : _) → deferred_call-c.Learnt κs a r s → deferred_call.Learnt κs a r s
-deferred_call_same κs a r s e = e
+  pub deferred_call_same : (L C D E F κs κs' a r s : _) → deferred_call-c.Learnt κs a r s → deferred_call.Learnt T L C W D E F κs' a r s
+  deferred_call_same L C D E F κs κs' a r s e = rw w e
 
-pub log_start_same : (κs a r s : _) → log_start-c.Learnt κs a r s → log_start.Learnt κs a r s
-log_start_same κs a r s e = e
+  pub log_start_same : (L C D E F κs κs' a r s : _) → log_start-c.Learnt κs a r s → log_start.Learnt T L C W D E F κs' a r s
+  log_start_same L C D E F κs κs' a r s e = rw w e
 
-pub log_end_same : (κs a r s : _) → log_end-c.Learnt κs a r s → log_end.Learnt κs a r s
-log_end_same κs a r s e = e
+  pub log_end_same : (L C D E F κs κs' a r s : _) → log_end-c.Learnt κs a r s → log_end.Learnt T L C W D E F κs' a r s
+  log_end_same L C D E F κs κs' a r s e = rw w e
 
-pub next_read_entry_id_same : (κs a r s : _) → next_read_entry_id-c.Learnt κs a r s → next_read_entry_id.Learnt κs a r s
-next_read_entry_id_same κs a r s e = e
+  pub next_read_entry_id_same : (L C D E F κs κs' a r s : _) → next_read_entry_id-c.Learnt κs a r s → next_read_entry_id.Learnt T L C W D E F κs' a r s
+  next_read_entry_id_same L C D E F κs κs' a r s e = rw w e
 
-pub get_size_same : (κs a r s : _) → get_size-c.Learnt κs a r s → get_size.Learnt κs a r s
-get_size_same κs a r s e = e
+  pub get_size_same : (L C D E F κs κs' a r s : _) → get_size-c.Learnt κs a r s → get_size.Learnt T L C W D E F κs' a r s
+  get_size_same L C D E F κs κs' a r s e = rw w e
 
-pub restart_same : (κs a r s : _) → restart-c.Learnt κs a r s → restart.Learnt κs a r s
-restart_same κs a r s e = e
+  pub restart_same : (L C D E F κs κs' a r s : _) → restart-c.Learnt κs a r s → restart.Learnt T L C W D E F κs' a r s
+  restart_same L C D E F κs κs' a r s e = rw w e
 
-pub survey_same : (κs a r s : _) → survey-c.Learnt κs a r s → survey.Learnt κs a r s
-survey_same κs a r s e = e
+-- the survey's words are numbers of 8 bytes
+pub survey_same : (W : Ghosts ℕ) → W.WIDTH ≡ 8 → W.value ≡ (λ x. x)
+    → (L C D E F κs κs' a r s : _) → survey-c.Learnt κs a r s → survey.Learnt (UInt w64) L C W D E F κs' a r s
+survey_same W w v L C D E F κs κs' a r s e = rw (w, v, map-id, map-id) e

@@ -1,4 +1,4 @@
-// The calls on a block of the board with 8-byte words, exported to C: each is the function of `punelovash8` with its name, and promises the same.
+// The calls on a block of the board with 8-byte words, exported to C.
 ghost use Rattle.std.specs.Prelude.{◌≡◌};
 ghost use Rattle.std.proofs.Math.ListN as lists;
 ghost use Rattle.engine_call.specs.Outcome.{Lent, lend};
@@ -6,7 +6,7 @@ ghost use Rattle.engine_call.specs.Call as c;
 ghost use Rattle.punelovash_block.specs.Block.{is_set, word_from, setup_at};
 ghost use Rattle.punelovash_block.specs.Call.{block_done, call_block, complete_block, read_block, AsIfLent};
 
-use punelovash8::calls;
+use punelovash_block::calls;
 
 // Appends the first `length` bytes of `data`.
 #[unsafe(no_mangle)]
@@ -23,7 +23,7 @@ pub extern "C" fn punelovash8_append(
         ≡ call_block 8 block.old (lend volume.now page.old hold.old)
         (c.append «data».now length (word_from word)) }
 {
-    calls::punelovash8_append(block, volume, page, hold, data, length, word)
+    calls::append::<u64>(block, volume, page, hold, data, length, word)
 }
 
 // Reads the next entry, of at most `length` bytes, into `buffer`. Of the hold buffer a read looks at the length alone, which has to be the page buffer's:
@@ -40,7 +40,7 @@ pub extern "C" fn punelovash8_read<'a>(
         (block_done result block.new x.page x.hold ≡ call_block 8 block.old x (c.read (lists.length buffer.old) length))
         × (buffer.new ≡ read_block 8 block.old x buffer.old length) }
 {
-    calls::punelovash8_read(block, volume, page, buffer, length)
+    calls::read::<u64>(block, volume, page, buffer, length)
 }
 
 // The next entry to read is the one at `entry_id`. Only sizes are looked at, so that nothing but the block is lent.
@@ -49,7 +49,7 @@ pub extern "C" fn punelovash8_seek(block: &mut [u8], entry_id: usize) -> u32
     ensures { (x : Lent) → AsIfLent (setup_at 8 block.old) x
         → block_done result block.new x.page x.hold ≡ call_block 8 block.old x (c.seek entry_id) }
 {
-    calls::punelovash8_seek(block, entry_id)
+    calls::seek::<u64>(block, entry_id)
 }
 
 // Writes the page buffer to flash.
@@ -64,7 +64,7 @@ pub extern "C" fn punelovash8_sync(
     ensures { block_done result block.new page.new hold.now
         ≡ call_block 8 block.old (lend volume.now page.old hold.now) (c.sync (word_from word)) }
 {
-    calls::punelovash8_sync(block, volume, page, hold, word)
+    calls::sync::<u64>(block, volume, page, hold, word)
 }
 
 // Erases the log. Only sizes are looked at, so that nothing but the block is lent.
@@ -73,7 +73,7 @@ pub extern "C" fn punelovash8_erase(block: &mut [u8], word: u8) -> u32
     ensures { (x : Lent) → AsIfLent (setup_at 8 block.old) x
         → block_done result block.new x.page x.hold ≡ call_block 8 block.old x (c.erase (word_from word)) }
 {
-    calls::punelovash8_erase(block, word)
+    calls::erase::<u64>(block, word)
 }
 
 // The flash has completed a write; `good` is 0 where it failed.
@@ -88,7 +88,7 @@ pub extern "C" fn punelovash8_write_complete(
     ensures { block_done result block.new page.new hold.now
         ≡ complete_block 8 block.old (lend volume.now page.old hold.now) (c.write_ended (is_set good)) }
 {
-    calls::punelovash8_write_complete(block, volume, page, hold, good)
+    calls::write_complete::<u64>(block, volume, page, hold, good)
 }
 
 // The flash has completed an erase; `good` is 0 where it failed.
@@ -105,7 +105,7 @@ pub extern "C" fn punelovash8_erase_complete(
         ≡ complete_block 8 block.old (lend volume.now page.old hold.now)
         (c.erase_ended (is_set good) (word_from word)) }
 {
-    calls::punelovash8_erase_complete(block, volume, page, hold, good, word)
+    calls::erase_complete::<u64>(block, volume, page, hold, good, word)
 }
 
 // The deferred call, which reports a read or a seek. Only sizes are looked at, so that nothing but the block is lent.
@@ -114,5 +114,5 @@ pub extern "C" fn punelovash8_deferred_call(block: &mut [u8]) -> u32
     ensures { (x : Lent) → AsIfLent (setup_at 8 block.old) x
         → block_done result block.new x.page x.hold ≡ call_block 8 block.old x c.deferred }
 {
-    calls::punelovash8_deferred_call(block)
+    calls::deferred_call::<u64>(block)
 }

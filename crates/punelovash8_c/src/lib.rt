@@ -1,4 +1,5 @@
-// The library for C of the board with 8-byte words: the functions of `punelovash8`, exported by name.
+// The library for C of the board with 8-byte words: the functions of `punelovash_block` at u64, exported by name. C needs a name and a
+// parameter list for each function of each board, so both libraries have each export.
 #![tactic(auto)]
 
 pub mod calls;

@@ -3,7 +3,7 @@ ghost use Rattle.std.specs.Prelude.{◌≡◌, Bool};
 ghost use Rattle.punelovash_block.specs.Block.{setup_from};
 ghost use Rattle.punelovash_block.specs.Call.{volume_surveyed, survey_volume};
 
-use punelovash8::survey;
+use punelovash_block::survey;
 
 // Writes the valid page IDs in rising order to `ids`, and their count to `count`.
 #[unsafe(no_mangle)]
@@ -18,5 +18,5 @@ pub extern "C" fn punelovash8_survey(
     ensures { (circular : Bool) → volume_surveyed result count.new ids.new
         ≡ survey_volume (setup_from 8 page_size page_count first_page circular) volume.now ids.old count.old }
 {
-    survey::punelovash8_survey(page_size, page_count, first_page, volume, ids, count)
+    survey::survey::<u64>(page_size, page_count, first_page, volume, ids, count)
 }

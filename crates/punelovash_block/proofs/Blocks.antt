@@ -1,43 +1,40 @@
 -- Laws of the numbers in a block, and of what is loaded from it.
-use Prim.Native.Nat.{ℕ, ◌*◌, ◌/◌, ◌%◌, ◌≤◌, ◌<◌, ◌^◌}
-use mathlib.Core.Path.{◌≡◌, refl, sym, ap, subst, ◌∙◌}
-use mathlib.Core.Bool.{Bool, true, false}
-use mathlib.Core.List.{List}
-use mathlib.Core.Option.{Option, none, some, none-ne-some, some-injective}
-use native.Mathlib.Nat.{mul-le-mul_right}
-use native.Mathlib.Omega.{arith}
-use lib.Dec.{eqb, leb, ltb}
-use borrow.Author.Tests.{eqb-true, eq-eqb, ne_eqb, leb-true, leb-false}
-use lib.ListN.{length, get_or}
+use Rattle.std.proofs.Common.{◌≡◌, ℕ, ◌+◌, ◌≤◌, ◌<◌, Bool, true, false, List, length, get_or, eqb, ltb, Result, Ok, Err, Some, None}
+use Rattle.std.proofs.Common.{refl, sym, ap, subst, ◌∙◌, arith, eqb-true, eq-eqb, ne_eqb}
+use Rattle.std.specs.Result.{result_ok}
+use Rattle.std.proofs.Math.Option.{Option, none, some, none-ne-some, some-injective}
 use Rattle.page.specs.Pick.{pick}
-use Rattle.engine_state.specs.Log.{Log, log_of}
-use Rattle.engine_state.specs.declared.state.Log as log
-use Rattle.punelovash_block.specs.declared.block.Loaded as loads
-use Rattle.punelovash_block.specs.declared.block.Loaded.TheVariants as v
-use Rattle.engine_call.specs.Outcome.{Outcome, Lent, Lengths, Done}
-use Rattle.punelovash_block.specs.Block.{block_size, flags_at, state_at, setup_at, log_at, loaded, Words, WordsIn, loaded_of}
-use Rattle.punelovash_block.specs.Call.{block_done, no_log, ran, run_loaded, AsIfLent}
-use Rattle.punelovash_block.specs.Get.{or_zero}
+use Rattle.page.specs.Header.{Extent}
+use Rattle.engine_state.specs.Answer.{SHAPE}
+use Rattle.engine_state.specs.Check.{shape_fits}
+use Rattle.engine_restart.specs.Restart.{started, refused, at_rest, recovered, started_from, headers, restart}
+use Rattle.engine_state.specs.Log.{State, Idle, Read, Seek, Append, Sync, Erase, state_number, Numbers, state_of, Setup, Log}
+use Rattle.engine_state.specs.declared.state.State as state
+use Rattle.engine_state.specs.declared.state.UnknownState.{UnknownState}
+use Rattle.engine_call.specs.Outcome.{Outcome, Lent, Done}
+use Rattle.punelovash_block.specs.Block.{block_size, flags_at, state_at, state_from, log_at, loaded}
+use Rattle.punelovash_block.specs.Call.{block_done, ran, run_loaded}
 
--- a product of two words fits 64 bits
-pub product_fits : (n p : ℕ) → n < 2 ^ 32 → p < 2 ^ 32 → n * p < 2 ^ 64
-product_fits n p h k = let most : n ≤ 4294967295 = omega (arith, h) in omega (arith, k, mul-le-mul_right p most)
+-- a state's number is at most 5, and gives the state
+pub state_back : (s : State) → (state_number s ≤ 5) × (state_from (state_number s) ≡ s)
+state_back Idle = (omega arith, refl)
+state_back Read = (omega arith, refl)
+state_back Seek = (omega arith, refl)
+state_back Append = (omega arith, refl)
+state_back Sync = (omega arith, refl)
+state_back Erase = (omega arith, refl)
 
--- of three flags the one worth 4 is set where they are at least 4
-pub flag_four : (f : ℕ) → f ≤ 7 → leb 4 f ≡ eqb (f / 4 % 2) 1
-flag_four f h = go (leb 4 f) refl
-  where
-    go : (b : Bool) → leb 4 f ≡ b → b ≡ eqb (f / 4 % 2) 1
-    go true e = let k : 4 ≤ f = leb-true 4 f e in sym (eq-eqb (f / 4 % 2) 1 (omega (arith, h, k)))
-    go false e = let k : f < 4 = leb-false 4 f e in sym (ne_eqb (f / 4 % 2) 1 (omega (arith, h, k)))
+-- a number that a state has, and one that none has
+pub some_state : (n : ℕ) (r : Result state.State UnknownState) {s : state.State} → Numbers n r → result_ok r ≡ Some s → (n ≤ 5) × (state_of s ≡ state_from n)
+some_state n (Ok t) {s} h e =
+    let same : t ≡ s = cc in
+    let b = state_back (state_of t) in
+    (rw h at b.0, subst (λ (k : state.State). state_of k ≡ state_from n) same (sym (rw h at b.1)))
+some_state n (Err u) h e = absurd (cc)
 
--- what a function that has loaded a block knows of it
-module _ (w : ℕ) (block : List ℕ) {r : loads.Loaded} (e : loaded_of w r ≡ loaded w block) where
-  pub holds_none : r ≡ v.Bad → loaded w block ≡ none
-  holds_none q = sym e ∙ ap (loaded_of w) q
-
-  pub holds_log : {l : log.Log} → r ≡ v.Log l → loaded w block ≡ some (log_of w l)
-  holds_log q = sym e ∙ ap (loaded_of w) q
+pub no_state : (n : ℕ) (r : Result state.State UnknownState) → Numbers n r → result_ok r ≡ None → 5 < n
+no_state n (Ok t) h e = absurd (cc)
+no_state n (Err u) h e = h.1
 
 -- tests that a log was let through by
 pub test_passed : (t : Bool) (x : Option Log) {l : Log} → pick t x none ≡ some l → (t ≡ true) × (x ≡ some l)
@@ -58,32 +55,38 @@ loaded_tests w block {l} e =
     let c = refuses_not (ltb 5 (get_or block state_at 0)) _ b.1 in
     (eqb-true _ _ a.0, b.0, some-injective (log_at w block) l c.1)
 
--- the same of what a function has loaded
-module _ (w : ℕ) (block : List ℕ) {r : loads.Loaded} {l : log.Log} (e : loaded_of w r ≡ loaded w block) (q : r ≡ v.Log l) where
-  pub held_size : length block ≡ block_size w
-  held_size = (loaded_tests w block (holds_log w block e q)).0
+-- the log that a restart starts has the setup and the clients that it is given
+pub started_same : (s : Setup) (reads appends : Bool) (x : Lent) {l : Log} → started l ≡ (restart s reads appends x).answer
+    → (l.setup ≡ s) × (l.read_client ≡ reads) × (l.append_client ≡ appends)
+unfolding restart
+started_same s reads appends x {l} e = go (shape_fits s (length x.volume) (length x.page) (length x.hold)) (headers s x.volume) e
+  where
+    go : (b : Bool) (h : Option Extent) → started l ≡ (pick b (started_from s reads appends x h) (record { answer = refused SHAPE; page = x.page })).answer
+        → (l.setup ≡ s) × (l.read_client ≡ reads) × (l.append_client ≡ appends)
+    go true none e =
+        let same : l ≡ at_rest s reads appends s.w s.w = cc in
+        (ap (λ (k : Log). k.setup) same, ap (λ (k : Log). k.read_client) same, ap (λ (k : Log). k.append_client) same)
+    go true (some ids) e =
+        let same : l ≡ at_rest s reads appends (ids.least + s.w) (recovered s ids.greatest x.volume x.page).append = cc in
+        (ap (λ (k : Log). k.setup) same, ap (λ (k : Log). k.read_client) same, ap (λ (k : Log). k.append_client) same)
+    go false h e = absurd (cc)
 
-  pub held_lent : (x : Lent) {volume page : ℕ} → (volume ≡ l.geometry.page_count * l.geometry.page_size) × (page ≡ l.geometry.page_size)
-      → AsIfLent (setup_at w block) x → Lengths x volume page page
-  held_lent x z a = rw (z.0, z.1) (subst (λ (k : Log). AsIfLent k.setup x) (loaded_tests w block (holds_log w block e q)).2 a)
+-- a block's length by the test of it
+pub has_size : (w : ℕ) {n size : ℕ} → n ≡ size → size ≡ block_size w → eqb n (block_size w) ≡ true
+has_size w e s = eq-eqb _ _ (e ∙ s)
 
-pub held_words : (r : loads.Loaded) (l : log.Log) → r ≡ v.Log l → WordsIn r → Words l.geometry
-held_words r l q h = rw q at h
+pub other_size : (w : ℕ) {n size : ℕ} → (n ≡ size → ⊥) → size ≡ block_size w → eqb n (block_size w) ≡ false
+other_size w d s = ne_eqb _ _ (λ e. d (e ∙ sym s))
 
--- what every call and every completion comes to: on a block that holds no log, and on one that holds a log
-module _ (w : ℕ) (block : List ℕ) {r : loads.Loaded} (e : loaded_of w r ≡ loaded w block) where
-  pub no_log_runs : (run : Log → Done) (x : Lent) {a : ℕ} → r ≡ v.Bad → a ≡ no_log w block x
-      → block_done a block x.page x.hold ≡ run_loaded w block x run (loaded w block)
-  no_log_runs run x q n = rw (holds_none w block e q, n)
+-- what tells a block that holds a log from one that holds none
+pub ruleset block_tests = (has_size, other_size, some_state, no_state)
 
-  pub log_runs : (run : Log → Done) (x : Lent) {l : log.Log} (o : Outcome) {a : ℕ} {after page hold : List ℕ} → r ≡ v.Log l
-      → ((page hold : List ℕ) → block_done a after page hold ≡ ran w block (record { outcome = o; page = page; hold = hold }))
-      → record { outcome = o; page = page; hold = hold } ≡ run (log_of w l) → block_done a after page hold ≡ run_loaded w block x run (loaded w block)
-  log_runs run x o {page} {hold} q s d = rw (holds_log w block e q) (s page hold ∙ ap (ran w block) d)
+-- a block that holds a log has its size
+pub loaded_size : (w : ℕ) (block : List ℕ) {l : Log} → loaded w block ≡ some l → length block ≡ block_size w
+loaded_size w block e = (loaded_tests w block e).0
 
-  -- a getter's number
-  pub no_log_gives : (f : Log → ℕ) → r ≡ v.Bad → 0 ≡ or_zero f (loaded w block)
-  no_log_gives f q = rw (holds_none w block e q)
-
-  pub log_gives : (f : Log → ℕ) {l : log.Log} {n : ℕ} → r ≡ v.Log l → n ≡ f (log_of w l) → n ≡ or_zero f (loaded w block)
-  log_gives f q n = rw (holds_log w block e q) n
+-- what every call and every completion comes to, on a block that holds a log
+pub loaded_runs : (w : ℕ) (block : List ℕ) (x : Lent) (run : Log → Done) {l : Log} (o : Outcome) {a : ℕ} {after page hold : List ℕ} → loaded w block ≡ some l
+    → ((page hold : List ℕ) → block_done a after page hold ≡ ran w block (record { outcome = o; page = page; hold = hold }))
+    → record { outcome = o; page = page; hold = hold } ≡ run l → block_done a after page hold ≡ run_loaded w block x run (loaded w block)
+loaded_runs w block x run o {page = page} {hold = hold} e s d = rw e (s page hold ∙ ap (ran w block) d)

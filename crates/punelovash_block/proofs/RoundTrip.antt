@@ -1,25 +1,18 @@
 -- What a call saves in a block is what the next call loads from it.
-use Prim.Native.Nat.{ℕ, zero, suc, ◌+◌, ◌/◌, ◌%◌, ◌≤◌, ◌<◌, ◌^◌}
-use mathlib.Core.Path.{◌≡◌, refl, sym, ap, ◌∙◌}
-use mathlib.Core.Bool.{Bool, true, false}
-use mathlib.Core.List.{List, [], ◌∷◌}
-use mathlib.Core.Option.{some}
-use native.Mathlib.Omega.{arith}
-use lib.ListN.{length, get_or}
-use lib.Seq.{get_or-set_same}
-use lib.Dec.{eqb, ltb}
-use borrow.Author.Tests.{eq-eqb, le-ltb}
+use Rattle.std.proofs.Common.{◌≡◌, ℕ, zero, suc, ◌+◌, ◌/◌, ◌%◌, ◌≤◌, ◌<◌, ◌^◌, Bool, true, false, List, [], ◌∷◌, length, get_or, eqb, ltb}
+use Rattle.std.proofs.Common.{refl, sym, ap, ◌∙◌, arith, get_or-set_same, eq-eqb, le-ltb}
+use Rattle.std.proofs.Math.Option.{some}
 use Rattle.page.specs.Pick.{pick}
 use Rattle.page.specs.Word.{le, word_at, word_bytes}
 use Rattle.page.proofs.Overwrites.{stores_overwrite, length_overwrite, overwrite_before}
 use Rattle.page.proofs.Words.{word_at_suc, word_at_zero, word_at_written, length_word_bytes}
-use Rattle.engine_state.specs.Log.{Setup, State, Idle, Read, Seek, Append, Sync, Erase, Log, state_number}
+use Rattle.engine_state.specs.Log.{Setup, Log, state_number}
 use Rattle.engine_call.specs.Outcome.{Outcome}
 use Rattle.punelovash_block.specs.Block.{page_size_at, page_count_at, first_page_at, flags_at, state_at, oldest_at, read_at, append_at, kept_at}
 use Rattle.punelovash_block.specs.Block.{report_at, lost_at}
-use Rattle.punelovash_block.specs.Block.{result_at, request_at, length_at, flash_page_at, block_size, state_from, flags, setup_at, log_at, loaded}
+use Rattle.punelovash_block.specs.Block.{result_at, request_at, length_at, flash_page_at, block_size, flags, setup_at, log_at, loaded}
 use Rattle.punelovash_block.specs.Block.{report_numbers, request_kind, request_page, at, saved, sized}
-use Rattle.punelovash_block.proofs.Blocks.{loaded_tests}
+use Rattle.punelovash_block.proofs.Blocks.{state_back, loaded_tests}
 
 -- a byte, or a word of k bytes, that goes to its place
 data Put : Type 0 where
@@ -109,15 +102,6 @@ module _ {size : ℕ} where
       let y = put_size (word k place n) block r.1 z in
       let stays = word_stays many (place + k) ps (at place (word_bytes k n) block) k place r.2 (omega arith) y in
       (λ h. stays ∙ word_at_written k n block place h (omega (arith, r.1, z)), stands many (place + k) ps _ r.2 y)
-
--- a state's number is at most 5, and gives the state
-state_back : (s : State) → (state_number s ≤ 5) × (state_from (state_number s) ≡ s)
-state_back Idle = (omega arith, refl)
-state_back Read = (omega arith, refl)
-state_back Seek = (omega arith, refl)
-state_back Append = (omega arith, refl)
-state_back Sync = (omega arith, refl)
-state_back Erase = (omega arith, refl)
 
 -- what stands before the state: a log's sizes, mode and clients
 pub record Headed (w : ℕ) (block : List ℕ) (s : Setup) (read_client append_client : Bool) : Type 0 where

@@ -4,13 +4,14 @@ use Rattle.std.proofs.Math.Option.{Option, none, some}
 use Rattle.page.specs.Pick.{pick}
 use Rattle.page.specs.Word.{word_at, word_bytes}
 use Rattle.page.specs.Bytes.{overwrite}
-use Rattle.engine_state.specs.Answer.{Report, no_report, append_done, sync_done, erase_done, read_done, seek_done, Request, no_request, write_page, erase_page}
+use Rattle.engine_state.specs.Answer.{number, Report, no_report, append_done, sync_done, erase_done, read_done, seek_done}
+use Rattle.engine_state.specs.Answer.{Request, no_request, write_page, erase_page}
 use Rattle.engine_state.specs.Log.{Setup, State, Idle, Read, Seek, Append, Sync, Erase, state_number, Log, log_of}
 use Rattle.engine_call.specs.Outcome.{Outcome, Word, ok, busy, fail}
 use Rattle.engine_state.specs.declared.state.Geometry as geometry
+use Rattle.engine_state.specs.declared.state.Log as log
 use Rattle.punelovash_block.specs.declared.numbers.ReportNumbers as numbers
-use Rattle.punelovash_block.specs.declared.block.Loaded as code
-use Rattle.punelovash_block.specs.declared.block.Loaded.TheVariants as c
+use Rattle.std.specs.Prelude as code
 
 -- the places in a block: the three IDs are words of w bytes, the sizes, the kept length, the report's length and the request's page 4 bytes each, the
 -- lowest first;
@@ -118,13 +119,10 @@ loaded w block =
 abbrev pub Words : geometry.Geometry → Type 0
 Words g = (g.page_size < 2 ^ 32) × (g.page_count < 2 ^ 32)
 
-abbrev pub WordsIn : code.Loaded → Type 0
-WordsIn (c.Log l) = Words l.geometry
-WordsIn c.Bad = Unit {0}
-
-abbrev pub loaded_of : ℕ → code.Loaded → Option Log
-loaded_of w (c.Log l) = some (log_of w l)
-loaded_of w c.Bad = none
+-- what the code has loaded
+abbrev pub loaded_of : code.Option log.Log → Option Log
+loaded_of (code.Some l) = some (log_of l)
+loaded_of code.None = none
 
 -- a report in numbers: its kind, whether entries were lost, its result and its length
 pub record ReportNumbers : Type 0 where
@@ -146,7 +144,7 @@ report_numbers (seek_done r) = in_numbers 5 false r 0
 
 -- what the code's numbers say
 abbrev pub numbers_of : numbers.ReportNumbers → ReportNumbers
-numbers_of r = in_numbers r.kind r.lost r.result r.length
+numbers_of r = in_numbers r.kind r.lost (number r.result) r.length
 
 -- a request in numbers: its kind and its flash page
 abbrev pub request_kind : Request → ℕ

@@ -1,20 +1,23 @@
 -- What a function on a block does, on the board with words of w bytes: the call runs on the log that the block holds, and the block takes what it gave.
-use Rattle.std.specs.Prelude.{ℕ, ◌*◌, ◌≡◌, Bool, true, false, not, ◌&&◌, List, length, eqb}
+use Rattle.std.specs.Prelude.{ℕ, ◌*◌, ◌≡◌, Bool, true, false, not, ◌&&◌, List, length, eqb, Result, Ok, Err}
 use Rattle.std.proofs.Math.Option.{Option, none, some}
 use Rattle.page.specs.Pick.{pick}
 use Rattle.page.specs.Answered.{Answered, gives, refuses}
 use Rattle.engine_state.specs.Answer.{OK, SHAPE, STATE}
 use Rattle.engine_state.specs.Log.{Setup, Log, log_of}
 use Rattle.engine_state.specs.Check.{shape_fits}
-use Rattle.engine_call.specs.Outcome.{Lent, Lengths, Done, answered, still}
+use Rattle.engine_call.specs.Outcome.{Lent, Lengths, Done, done_of, answered, still}
 use Rattle.engine_call.specs.Call.{Call, Completion}
 use Rattle.engine_restart.specs.Restart.{Restarted, started, refused, restart}
 use Rattle.engine_restart.specs.Survey.{survey}
 use Rattle.engine_read.specs.Read.{read_buffer}
 use Rattle.engine_laws.specs.Call.{call, complete}
 use Rattle.punelovash_block.specs.Block.{block_size, setup_at, loaded, saved, sized}
-use Rattle.punelovash_block.specs.declared.block.LoadedLent as code
-use Rattle.punelovash_block.specs.declared.block.LoadedLent.TheVariants as c
+use Rattle.engine_state.specs.declared.state.Log as log
+use Rattle.engine_state.specs.declared.fits.LentLengths as lengths
+use Rattle.engine_call.specs.declared.outcome.Outcome as outcome
+use Rattle.punelovash_block.specs.declared.block.NotLoaded.{NotLoaded}
+use Rattle.punelovash_block.specs.declared.block.NotLoaded.TheVariants.{Misfit, NoLog}
 
 -- the answer's number, and the block and the buffers after a call
 pub record BlockDone : Type 0 where
@@ -60,10 +63,10 @@ abbrev pub shape_refused : ℕ → List ℕ → Lent → BlockDone
 shape_refused w block x = run_loaded w block x (λ l. still l x SHAPE) (loaded w block)
 
 -- what the code's look at a block and at what is lent says: it holds a log; SHAPE refuses it; or it holds no log, and SHAPE doesn't refuse it
-abbrev pub LoadsLent : ℕ → List ℕ → ℕ → ℕ → ℕ → code.LoadedLent → Type 0
-LoadsLent w block volume page hold (c.Log l) = loaded w block ≡ some (log_of w l)
-LoadsLent w block volume page hold c.Misfit = misfit_by w block volume page hold ≡ true
-LoadsLent w block volume page hold c.Bad = (loaded w block ≡ none) × (misfit_by w block volume page hold ≡ false)
+abbrev pub LoadsLent : ℕ → List ℕ → ℕ → ℕ → ℕ → Result log.Log NotLoaded → Type 0
+LoadsLent w block volume page hold (Ok l) = loaded w block ≡ some (log_of l)
+LoadsLent w block volume page hold (Err Misfit) = misfit_by w block volume page hold ≡ true
+LoadsLent w block volume page hold (Err NoLog) = (loaded w block ≡ none) × (misfit_by w block volume page hold ≡ false)
 
 -- the client's buffer after a read
 abbrev pub read_loaded : Lent → List ℕ → ℕ → Option Log → List ℕ
@@ -76,6 +79,17 @@ read_block w block x bytes n = read_loaded x bytes n (loaded w block)
 -- a call that reads no byte of the volume, the page buffer or the hold buffer is not lent them: it is as if the volume had L = N × P bytes and each buffer P
 abbrev pub AsIfLent : Setup → Lent → Type 0
 AsIfLent s x = Lengths x (s.n * s.p) s.p s.p
+
+-- what such a call says of any log and of the lengths that it is told: the log's run
+abbrev pub GivesRun : (log.Log → lengths.LentLengths → outcome.Outcome → Type 0) → Lent → (Log → Done) → Type 0
+GivesRun says x run =
+    (l : log.Log) (n : lengths.LentLengths) (o : outcome.Outcome) → Lengths x n.volume n.page n.hold → says l n o → done_of o x.page x.hold ≡ run (log_of l)
+
+-- the answer and the block after such a call, on the log that was loaded
+abbrev pub RunsBySizes : ℕ → List ℕ → (log.Log → lengths.LentLengths → outcome.Outcome → Type 0) → ℕ → List ℕ → Type 0
+RunsBySizes w block says answer after =
+    (x : Lent) → AsIfLent (setup_at w block) x → (run : Log → Done) → GivesRun says x run
+    → block_done answer after x.page x.hold ≡ run_loaded w block x run (loaded w block)
 
 -- a restart makes a block of the right length a log's; one of another length is refused by STATE
 abbrev pub restart_saved : ℕ → List ℕ → Setup → Bool → Bool → Lent → List ℕ → Restarted → BlockDone

@@ -1,28 +1,24 @@
-// The block that a caller lends: 32 + 3 × width bytes with the log and what the last call gave.
+// The block that a caller lends: 32 + 3 × width bytes with the log and what the last call gave. `W` is the board's word.
 ghost use Rattle.std.specs.Prelude.{◌≡◌, true, List, [], ◌∷◌, ℕ, ◌+◌, ◌*◌, ◌≤◌, ◌<◌, length, get_or};
-ghost use Rattle.page.specs.Sizes.{Width};
+ghost use Rattle.page.specs.Word.{word_at, word_bytes};
 ghost use Rattle.page.specs.Bytes.{overwrite};
-ghost use Rattle.engine_state.specs.Answer.{request_of};
-ghost use Rattle.engine_state.specs.Log.{setup_of, log_of};
-ghost use Rattle.engine_call.specs.Outcome.{Lent, done_of};
-ghost use Rattle.punelovash_block.specs.Block.{Words, WordsIn, block_rest, block_size, flags_at, setup_at, log_at, loaded_of, loaded, numbers_of, with_log};
-ghost use Rattle.punelovash_block.specs.Block.{with_report, with_request, with_sizes};
+ghost use Rattle.engine_state.specs.Answer.{number};
+ghost use Rattle.engine_state.specs.Log.{setup_of, log_of, state_of};
+ghost use Rattle.engine_call.specs.Outcome.{Lent, Lengths, done_of};
+ghost use Rattle.punelovash_block.specs.Block.{block_size, flags_at, state_at, state_from, setup_at, log_at, Words, loaded_of, loaded, sized};
 ghost use Rattle.punelovash_block.specs.Call.{block_done, misfit, no_log, ran, shape_refused, LoadsLent, AsIfLent};
 
 use crate::numbers;
-use crate::numbers::{ReportNumbers, flag, request_kind, request_page};
+use crate::numbers::{ReportNumbers, RequestNumbers};
 use engine_call::outcome;
 use engine_call::outcome::Outcome;
-use engine_state::answer::{Answer, Request};
-use engine_state::state::{Geometry, Log};
-use engine_state::{answer, fits, state};
+use engine_restart::board_word::Word;
+use engine_state::answer::Answer;
+use engine_state::fits;
+use engine_state::fits::LentLengths;
+use engine_state::state::{Geometry, Log, Setup, State};
 use page::id::EntryID;
 use page::word;
-
-// The answers to a block that holds no log.
-pub(crate) const SHAPE: u32 = 20;
-
-pub(crate) const STATE: u32 = 21;
 
 // The places before the IDs, of which the oldest is the first.
 const PAGE_SIZE_AT: usize = 0;
@@ -54,27 +50,18 @@ const PAGE_AT: usize = 28;
 
 const BLOCK_REST: usize = 32;
 
-// A place after the three IDs.
-fn past_ids(width: usize, at: usize) -> usize
-    requires { Width width × (at ≤ block_rest) }
-    ensures { result ≡ at + 3 * width }
+// The bytes of the three IDs.
+fn ids_size<W: Word>() -> usize
+    ensures { (result ≡ 3 * W.WIDTH) × (result ≤ 24) }
 {
-    at + 3 * width
+    3 * W::WIDTH
 }
 
 // The bytes of a block.
-pub(crate) fn block_size(width: usize) -> usize
-    requires { Width width }
-    ensures { result ≡ block_size width }
+pub(crate) fn block_size<W: Word>() -> usize
+    ensures { result ≡ block_size W.WIDTH }
 {
-    past_ids(width, BLOCK_REST)
-}
-
-// The log in a block, or that it holds none.
-#[derive(Clone, Copy)]
-pub enum Loaded {
-    Log(Log),
-    Bad,
+    BLOCK_REST + ids_size::<W>()
 }
 
 // A byte goes to its place.
@@ -85,196 +72,190 @@ fn put_byte(block: &mut [u8], at: usize, byte: u8)
     block[at] = byte;
 }
 
-// The sizes of a log.
-fn sizes_at(block: &[u8]) -> Geometry
-    requires { flags_at ≤ length block.now }
-    ensures { ((w : ℕ) → setup_of w result (setup_at w block.now).circular ≡ setup_at w block.now) × Words result }
+// The ID at a place.
+fn id_at<W: Word>(block: &[u8], at: usize) -> EntryID
+    requires { at + W.WIDTH ≤ length block.now }
+    ensures { result.0 ≡ word_at W.WIDTH block.now at }
 {
-    Geometry {
+    EntryID(word::read_word(W::WIDTH, block, at))
+}
+
+// An ID goes to its place.
+fn put_id<W: Word>(block: &mut [u8], at: usize, id: EntryID)
+    requires { at + W.WIDTH ≤ length block.old }
+    ensures { block.new ≡ overwrite block.old at (word_bytes W.WIDTH id.0) }
+{
+    word::write_word(W::WIDTH, block, at, id.0);
+}
+
+// The sizes and the mode in a block.
+pub(crate) fn setup_at<W: Word>(block: &[u8]) -> Setup
+    requires { flags_at < length block.now }
+    ensures { (setup_of result ≡ setup_at W.WIDTH block.now) × Words result.geometry }
+{
+    let geometry = Geometry {
         page_size: word::read_four(block, PAGE_SIZE_AT) as usize,
         page_count: word::read_four(block, PAGE_COUNT_AT) as usize,
         first_page: word::read_four(block, FIRST_PAGE_AT) as usize,
+    };
+    Setup {
+        width: W::WIDTH,
+        geometry,
+        circular: block[FLAGS_AT] % 2 == 1,
     }
 }
 
-// The log of a block whose bytes were tested.
-fn log_at(width: usize, block: &[u8]) -> Log
-    requires { Width width × (length block.now ≡ block_size width) × (get_or block.now flags_at 0 ≤ 7) }
-    ensures { (log_of width result ≡ log_at width block.now) × Words result.geometry }
+// The log of a block whose bytes were tested, with the state that they say.
+fn log_at<W: Word>(state: State, block: &[u8]) -> Log
+    requires { (length block.now ≡ block_size W.WIDTH) × (get_or block.now flags_at 0 ≤ 7)
+        × (state_of state ≡ state_from (get_or block.now state_at 0)) }
+    ensures { log_of result ≡ log_at W.WIDTH block.now }
 {
-    let geometry = sizes_at(block);
-    let state = numbers::state_from(block[STATE_AT]);
-    let oldest = EntryID(word::read_word(width, block, OLDEST_AT));
-    let read = EntryID(word::read_word(width, block, OLDEST_AT + width));
-    let append = EntryID(word::read_word(width, block, OLDEST_AT + 2 * width));
+    let width = W::WIDTH;
     let flags = block[FLAGS_AT];
     Log {
-        geometry,
-        circular: flags % 2 == 1,
+        setup: setup_at::<W>(block),
         read_client: flags / 2 % 2 == 1,
         append_client: 4 <= flags,
         state,
-        oldest_entry_id: oldest,
-        read_entry_id: read,
-        append_entry_id: append,
-        length: word::read_word(4, block, past_ids(width, KEPT_AT)),
+        oldest_entry_id: id_at::<W>(block, OLDEST_AT),
+        read_entry_id: id_at::<W>(block, OLDEST_AT + width),
+        append_entry_id: id_at::<W>(block, OLDEST_AT + 2 * width),
+        length: word::read_four(block, KEPT_AT + ids_size::<W>()) as usize,
     }
 }
 
-// What is no log is told from one: another length, flags above 7, a state above 5.
-pub(crate) fn load(width: usize, block: &[u8]) -> Loaded
-    requires { Width width }
-    ensures { (loaded_of width result ≡ loaded width block.now) × WordsIn result }
+// The log in a block. What is no log is told from one: another length, flags above 7, a state above 5.
+#[tactic(auto, using(crate::proofs::Blocks::block_tests), unfolding(crate::specs::Block::loaded))]
+pub(crate) fn load<W: Word>(block: &[u8]) -> Option<Log>
+    ensures { loaded_of result ≡ loaded W.WIDTH block.now }
 {
-    if block.len() != block_size(width) {
-        return Loaded::Bad;
+    if block.len() != block_size::<W>() {
+        return None;
     }
     if 7 < block[FLAGS_AT] {
-        return Loaded::Bad;
+        return None;
     }
-    if 5 < block[STATE_AT] {
-        return Loaded::Bad;
-    }
-    Loaded::Log(log_at(width, block))
+    let state = State::try_from(block[STATE_AT]).ok()?;
+    Some(log_at::<W>(state, block))
 }
 
-// The log in a block that is lent with a volume and two buffers: SHAPE comes first.
+// Why a block that is lent with a volume and two buffers gives no log: SHAPE refuses its sizes or what is lent, or it holds none.
 #[derive(Clone, Copy)]
-pub enum LoadedLent {
-    Log(Log),
+pub(crate) enum NotLoaded {
     Misfit,
-    Bad,
+    NoLog,
 }
 
-// The page size is compared with the buffer's length first, and then taken from there: so the compiler finds that a call's own look at
-// SHAPE is this one.
-pub(crate) fn load_lent(
-    width: usize,
-    block: &[u8],
-    volume_len: usize,
-    page_len: usize,
-    hold_len: usize,
-) -> LoadedLent
-    requires { Width width }
-    ensures { LoadsLent width block.now volume_len page_len hold_len result }
+// The log in a block that is lent with a volume and two buffers: SHAPE comes first. The page size is compared with the buffer's length first, and then
+// taken from there: so the compiler finds that a call's own look at SHAPE is this one.
+#[tactic(auto, using(crate::proofs::Misfits::lent_tests), unfolding(crate::specs::Block::loaded, crate::specs::Call::misfit_by))]
+pub(crate) fn load_lent<W: Word>(block: &[u8], lent: LentLengths) -> Result<Log, NotLoaded>
+    ensures { LoadsLent W.WIDTH block.now lent.volume lent.page lent.hold result }
 {
-    if block.len() != block_size(width) {
-        return LoadedLent::Bad;
+    if block.len() != block_size::<W>() {
+        return Err(NotLoaded::NoLog);
     }
-    let geometry = sizes_at(block);
-    if page_len != geometry.page_size {
-        return LoadedLent::Misfit;
+    let setup = setup_at::<W>(block);
+    if lent.page != setup.geometry.page_size {
+        return Err(NotLoaded::Misfit);
     }
-    let lent = Geometry {
-        page_size: page_len,
-        page_count: geometry.page_count,
-        first_page: geometry.first_page,
+    let geometry = Geometry {
+        page_size: lent.page,
+        ..setup.geometry
     };
-    if !fits::shape_fits(width, lent, volume_len, page_len, hold_len) {
-        return LoadedLent::Misfit;
+    if !fits::shape_fits(Setup { geometry, ..setup }, lent) {
+        return Err(NotLoaded::Misfit);
     }
-    match load(width, block) {
-        Loaded::Bad => LoadedLent::Bad,
-        Loaded::Log(log) => LoadedLent::Log(log),
-    }
+    load::<W>(block).ok_or(NotLoaded::NoLog)
 }
 
 // The answer to a block that holds no log, of a call that is lent nothing but the block: SHAPE where its sizes don't fit.
-pub(crate) fn no_log(width: usize, block: &[u8]) -> u32
-    requires { Width width }
-    ensures { (x : Lent) → AsIfLent (setup_at width block.now) x → result ≡ no_log width block.now x }
+#[tactic(auto, using(crate::proofs::Misfits::unlent_tests), unfolding(crate::specs::Call::no_log, crate::specs::Call::misfit_by))]
+pub(crate) fn no_log<W: Word>(block: &[u8]) -> Answer
+    ensures { (x : Lent) → AsIfLent (setup_at W.WIDTH block.now) x → number result ≡ no_log W.WIDTH block.now x }
 {
-    if block.len() != block_size(width) {
-        return STATE;
+    if block.len() != block_size::<W>() {
+        return Answer::STATE;
     }
-    if fits::sizes_fit(width, sizes_at(block)) {
-        return STATE;
+    if fits::sizes_fit(setup_at::<W>(block)) {
+        return Answer::STATE;
     }
-    SHAPE
+    Answer::SHAPE
 }
 
 // The lengths of what is not lent, by a log's own sizes.
-#[derive(Clone, Copy)]
-pub(crate) struct LentSizes {
-    pub volume: usize,
-    pub page: usize,
-}
-
-pub(crate) fn as_if_lent(geometry: Geometry) -> LentSizes
-    requires { Words geometry }
-    ensures { (result.volume ≡ geometry.page_count * geometry.page_size) × (result.page ≡ geometry.page_size) }
+pub(crate) fn as_if_lent(setup: Setup) -> LentLengths
+    requires { Words setup.geometry }
+    ensures { (x : Lent) → AsIfLent (setup_of setup) x → Lengths x result.volume result.page result.hold }
 {
-    LentSizes {
-        volume: geometry.page_count * geometry.page_size,
-        page: geometry.page_size,
+    let page = setup.geometry.page_size;
+    LentLengths {
+        volume: setup.geometry.page_count * page,
+        page,
+        hold: page,
     }
 }
 
-fn save_log(width: usize, log: Log, block: &mut [u8])
-    requires { Width width × (length block.old ≡ block_size width) }
-    ensures { block.new ≡ with_log width (log_of width log) block.old }
+// The block takes what a call gave: the log, the report and the request; the answer's number. By reference: what is copied of a report the compiler keeps in
+// memory, and each library is a tenth larger.
+#[tactic(auto, unfolding(crate::specs::Block::saved))]
+pub(crate) fn save<W: Word>(given: &Outcome, block: &mut [u8]) -> u32
+    requires { length block.old ≡ block_size W.WIDTH }
+    ensures { (page hold : List ℕ) → block_done result block.new page hold ≡ ran W.WIDTH block.old (done_of given.now page hold) }
 {
-    let state = log.state;
-    put_byte(block, STATE_AT, state::state_number(state));
-    word::write_word(width, block, OLDEST_AT, log.oldest_entry_id.0);
-    word::write_word(width, block, OLDEST_AT + width, log.read_entry_id.0);
-    word::write_word(width, block, OLDEST_AT + 2 * width, log.append_entry_id.0);
-    word::write_word(4, block, past_ids(width, KEPT_AT), log.length);
-}
-
-fn save_report(width: usize, report: ReportNumbers, block: &mut [u8])
-    requires { Width width × (length block.old ≡ block_size width) }
-    ensures { block.new ≡ with_report width (numbers_of report) block.old }
-{
-    put_byte(block, past_ids(width, REPORT_AT), report.kind);
-    put_byte(block, past_ids(width, LOST_AT), flag(report.lost));
-    put_byte(block, past_ids(width, RESULT_AT), report.result);
-    word::write_word(4, block, past_ids(width, LENGTH_AT), report.length);
-}
-
-fn save_request(width: usize, request: Request, block: &mut [u8])
-    requires { Width width × (length block.old ≡ block_size width) }
-    ensures { block.new ≡ with_request width (request_of request) block.old }
-{
-    put_byte(block, past_ids(width, REQUEST_AT), request_kind(request));
-    word::write_word(4, block, past_ids(width, PAGE_AT), request_page(request));
-}
-
-// The block takes what a call gave; the answer's number.
-pub(crate) fn save(width: usize, given: Outcome, block: &mut [u8]) -> u32
-    requires { Width width × (length block.old ≡ block_size width) }
-    ensures { (page hold : List ℕ) → block_done result block.new page hold ≡ ran width block.old (done_of width given page hold) }
-{
+    let width = W::WIDTH;
+    let ids = ids_size::<W>();
     let log = given.log;
-    let answer = given.answer;
-    let report = given.report;
-    let request = given.request;
-    save_log(width, log, block);
-    save_report(width, numbers::report_numbers(report), block);
-    save_request(width, request, block);
-    answer::answer_number(answer) as u32
+    put_byte(block, STATE_AT, u8::from(log.state));
+    put_id::<W>(block, OLDEST_AT, log.oldest_entry_id);
+    put_id::<W>(block, OLDEST_AT + width, log.read_entry_id);
+    put_id::<W>(block, OLDEST_AT + 2 * width, log.append_entry_id);
+    word::write_word(4, block, KEPT_AT + ids, log.length);
+    let report = ReportNumbers::from(given);
+    put_byte(block, REPORT_AT + ids, report.kind);
+    put_byte(block, LOST_AT + ids, u8::from(report.lost));
+    put_byte(block, RESULT_AT + ids, u8::from(report.result));
+    word::write_word(4, block, LENGTH_AT + ids, report.length);
+    let request = RequestNumbers::from(given);
+    put_byte(block, REQUEST_AT + ids, request.kind);
+    word::write_word(4, block, PAGE_AT + ids, request.page);
+    numbers::answer_number(given.answer)
 }
 
 // SHAPE: a block that holds a log says no report and no request, any other stays as it is.
-pub(crate) fn refuse_shape(width: usize, block: &mut [u8]) -> u32
-    requires { Width width }
-    ensures { (x : Lent) → misfit width block.old x ≡ true
-        → block_done result block.new x.page x.hold ≡ shape_refused width block.old x }
+#[tactic(auto, using(crate::proofs::Blocks::loaded_size), unfolding(crate::specs::Call::no_log))]
+fn refuse_shape<W: Word>(block: &mut [u8]) -> u32
+    ensures { (x : Lent) → misfit W.WIDTH block.old x ≡ true
+        → block_done result block.new x.page x.hold ≡ shape_refused W.WIDTH block.old x }
 {
-    match load(width, block) {
-        Loaded::Bad => SHAPE,
-        Loaded::Log(log) => save(width, outcome::still(log, Answer::SHAPE), block),
+    match load::<W>(block) {
+        Some(log) => save::<W>(&outcome::still(log, Answer::SHAPE), block),
+        None => numbers::answer_number(Answer::SHAPE),
     }
 }
 
-// The block takes a log's sizes and its byte of flags.
-pub(crate) fn save_sizes(geometry: Geometry, flag_byte: u8, block: &mut [u8])
-    requires { flags_at < length block.old }
-    ensures { block.new
-        ≡ with_sizes geometry.page_size geometry.page_count geometry.first_page flag_byte block.old }
+// A block that is lent gives no log: SHAPE, or else STATE, which leaves it as it is.
+#[tactic(auto, unfolding(crate::specs::Call::no_log))]
+pub(crate) fn refuse<W: Word>(why: NotLoaded, block: &mut [u8]) -> u32
+    ensures { (x : Lent) → LoadsLent W.WIDTH block.old (length x.volume) (length x.page) (length x.hold) (Err why)
+        → block_done result block.new x.page x.hold ≡ shape_refused W.WIDTH block.old x }
 {
+    match why {
+        NotLoaded::Misfit => refuse_shape::<W>(block),
+        NotLoaded::NoLog => numbers::answer_number(Answer::STATE),
+    }
+}
+
+// The block takes a log's sizes and its byte of flags, which only a restart sets.
+#[tactic(auto, unfolding(crate::specs::Block::sized))]
+pub(crate) fn save_setup(log: &Log, block: &mut [u8])
+    requires { flags_at < length block.old }
+    ensures { let l = log_of log.now in block.new ≡ sized l.setup l.read_client l.append_client block.old }
+{
+    let geometry = log.setup.geometry;
     word::write_word(4, block, PAGE_SIZE_AT, geometry.page_size);
     word::write_word(4, block, PAGE_COUNT_AT, geometry.page_count);
     word::write_word(4, block, FIRST_PAGE_AT, geometry.first_page);
-    put_byte(block, FLAGS_AT, flag_byte);
+    put_byte(block, FLAGS_AT, numbers::flags(log));
 }

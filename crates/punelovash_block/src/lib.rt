@@ -1,4 +1,5 @@
-// The log for C and Rust, for words of 4 and of 8 bytes: functions on numbers and byte slices, with the log in a block of bytes that the caller lends.
+// The log for C and Rust, on either board: functions on numbers and byte slices, with the log in a block of bytes that the caller lends. Each is generic
+// over the board's word; the libraries for C, `punelovash_c` and `punelovash8_c`, export it at u32 and at u64.
 #![tactic(auto)]
 
 pub mod block;
@@ -6,3 +7,4 @@ pub mod calls;
 pub mod get;
 pub mod numbers;
 pub mod restart;
+pub mod survey;

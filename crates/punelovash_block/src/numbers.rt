@@ -1,94 +1,109 @@
-// States, reports, requests and the driver's word as numbers.
-ghost use Rattle.std.specs.Prelude.{◌≡◌, ◌≤◌};
-ghost use Rattle.page.specs.Pick.{pick};
-ghost use Rattle.engine_state.specs.Answer.{report_of, request_of};
-ghost use Rattle.engine_state.specs.Log.{state_of};
+// Answers, flags, reports, requests and the driver's word as numbers.
+ghost use Rattle.std.specs.Prelude.{◌≡◌};
+ghost use Rattle.engine_state.specs.Answer.{number};
+ghost use Rattle.engine_state.specs.Log.{log_of};
 ghost use Rattle.engine_call.specs.Outcome.{word_of};
-ghost use Rattle.punelovash_block.specs.Block.{state_from, flags, in_numbers, report_numbers, numbers_of, request_kind, request_page, word_from};
+ghost use Rattle.punelovash_block.specs.Block.{flags, word_from};
 
-use engine_call::outcome::Driver;
-use engine_state::answer::{Report, Request};
-use engine_state::state::State;
+use engine_call::outcome::{Driver, Outcome};
+use engine_state::answer::{Answer, Report, Request};
+use engine_state::state::Log;
 
-pub(crate) fn state_from(number: u8) -> State
-    ensures { state_of result ≡ state_from number }
+// An answer's number, as C is given it.
+pub(crate) fn answer_number(answer: Answer) -> u32
+    ensures { result ≡ number answer }
 {
-    match number {
-        0 => State::Idle,
-        1 => State::Read,
-        2 => State::Seek,
-        3 => State::Append,
-        4 => State::Sync,
-        _ => State::Erase,
-    }
+    u32::from(u8::from(answer))
 }
 
-pub(crate) fn flag(set: bool) -> u8
-    ensures { (result ≡ pick set 1 0) × (result ≤ 1) }
+// A log's byte of flags.
+pub(crate) fn flags(log: &Log) -> u8
+    ensures { let l = log_of log.now in result ≡ flags l.setup.circular l.read_client l.append_client }
 {
-    if set { 1 } else { 0 }
+    u8::from(log.setup.circular) + 2 * u8::from(log.read_client) + 4 * u8::from(log.append_client)
 }
 
-pub(crate) fn flags(circular: bool, read_client: bool, append_client: bool) -> u8
-    ensures { result ≡ flags circular read_client append_client }
-{
-    flag(circular) + 2 * flag(read_client) + 4 * flag(append_client)
-}
-
-// A report in numbers: its kind, whether entries were lost, its result and its length.
+// A report in the numbers that C reads in a block: its kind, whether entries were lost, its result and its length.
 #[derive(Clone, Copy)]
 pub(crate) struct ReportNumbers {
     pub kind: u8,
     pub lost: bool,
-    pub result: u8,
+    pub result: Answer,
     pub length: usize,
 }
 
-fn in_numbers(kind: u8, lost: bool, res: u8, length: usize) -> ReportNumbers
-    ensures { numbers_of result ≡ in_numbers kind lost res length }
-{
-    ReportNumbers {
-        kind,
-        lost,
-        result: res,
-        length,
+impl From<&Outcome> for ReportNumbers {
+    ghost use Rattle.std.specs.Prelude.{◌≡◌};
+    ghost use Rattle.engine_state.specs.Answer.{report_of};
+    ghost use Rattle.punelovash_block.specs.Block.{numbers_of, report_numbers};
+
+    ghost from_gives = { λ given numbers. numbers_of numbers ≡ report_numbers (report_of given.now.report) };
+
+    fn from(given: &Outcome) -> ReportNumbers {
+        let nothing = ReportNumbers {
+            kind: 0,
+            lost: false,
+            result: Answer::OK,
+            length: 0,
+        };
+        match given.report {
+            None => nothing,
+            Some(Report::AppendDone(length, lost, result)) => ReportNumbers {
+                kind: 1,
+                lost,
+                result,
+                length,
+            },
+            Some(Report::SyncDone(result)) => ReportNumbers {
+                kind: 2,
+                result,
+                ..nothing
+            },
+            Some(Report::EraseDone(result)) => ReportNumbers {
+                kind: 3,
+                result,
+                ..nothing
+            },
+            Some(Report::ReadDone(length)) => ReportNumbers {
+                kind: 4,
+                length,
+                ..nothing
+            },
+            Some(Report::SeekDone) => ReportNumbers { kind: 5, ..nothing },
+        }
     }
 }
 
-pub(crate) fn report_numbers(report: Report) -> ReportNumbers
-    ensures { numbers_of result ≡ report_numbers (report_of report) }
-{
-    match report {
-        Report::Nothing => in_numbers(0, false, 0, 0),
-        Report::AppendDone(length, lost, result) => in_numbers(1, lost, result, length),
-        Report::SyncDone(result) => in_numbers(2, false, result, 0),
-        Report::EraseDone(result) => in_numbers(3, false, result, 0),
-        Report::ReadDone(length) => in_numbers(4, false, 0, length),
-        Report::SeekDone => in_numbers(5, false, 0, 0),
+// A request in the numbers that C reads in a block: its kind and its flash page.
+#[derive(Clone, Copy)]
+pub(crate) struct RequestNumbers {
+    pub kind: u8,
+    pub page: usize,
+}
+
+impl From<&Outcome> for RequestNumbers {
+    ghost use Rattle.std.specs.Prelude.{◌≡◌};
+    ghost use Rattle.engine_state.specs.Answer.{request_of};
+    ghost use Rattle.punelovash_block.specs.Block.{request_kind, request_page};
+
+    ghost from_gives = { λ given numbers. let q = request_of given.now.request in (numbers.kind ≡ request_kind q) × (numbers.page ≡ request_page q) };
+
+    fn from(given: &Outcome) -> RequestNumbers {
+        match given.request {
+            None => RequestNumbers { kind: 0, page: 0 },
+            Some(Request::Write(page)) => RequestNumbers {
+                kind: 1,
+                page: page.0,
+            },
+            Some(Request::Erase(page)) => RequestNumbers {
+                kind: 2,
+                page: page.0,
+            },
+        }
     }
 }
 
-pub(crate) fn request_kind(request: Request) -> u8
-    ensures { result ≡ request_kind (request_of request) }
-{
-    match request {
-        Request::Nothing => 0,
-        Request::Write(page) => 1,
-        Request::Erase(page) => 2,
-    }
-}
-
-pub(crate) fn request_page(request: Request) -> usize
-    ensures { result ≡ request_page (request_of request) }
-{
-    match request {
-        Request::Nothing => 0,
-        Request::Write(page) => page.0,
-        Request::Erase(page) => page.0,
-    }
-}
-
-// The driver's word: 0 is OK, 2 is BUSY, and any other number is FAIL.
+// The driver's word: 0 is OK, 2 is BUSY, and any other number is FAIL. A function, since `From<u8> for Driver` can stand only beside `Driver`.
 pub(crate) fn word_from(number: u8) -> Driver
     ensures { word_of result ≡ word_from number }
 {

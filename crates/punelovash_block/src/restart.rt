@@ -1,20 +1,18 @@
 // Restart, on a block.
 ghost use Rattle.std.specs.Prelude.{◌≡◌};
-ghost use Rattle.page.specs.Sizes.{Width};
 ghost use Rattle.engine_call.specs.Outcome.{lend};
 ghost use Rattle.punelovash_block.specs.Block.{is_set, setup_from};
 ghost use Rattle.punelovash_block.specs.Call.{block_done, restart_block};
 
 use crate::{block, numbers};
 use engine_call::outcome;
+use engine_restart::board_word::Word;
 use engine_restart::restart;
-use engine_restart::restart::Restarted;
 use engine_state::answer::Answer;
-use engine_state::state::Geometry;
+use engine_state::state::{Geometry, Setup};
 
 // Restarts the log on a volume. Flags are 0 or not.
-pub fn restart(
-    width: usize,
+pub fn restart<W: Word>(
     block: &mut [u8],
     page_size: u32,
     page_count: u32,
@@ -26,27 +24,29 @@ pub fn restart(
     page: &mut [u8],
     hold: &[u8],
 ) -> u32
-    requires { Width width }
     ensures { block_done result block.new page.new hold.now
-        ≡ restart_block width block.old (setup_from width page_size page_count first_page (is_set circular))
+        ≡ restart_block W.WIDTH block.old (setup_from W.WIDTH page_size page_count first_page (is_set circular))
         (is_set read_client) (is_set append_client) (lend volume.now page.old hold.now) }
 {
-    if block.len() != block::block_size(width) {
-        return block::STATE;
+    if block.len() != block::block_size::<W>() {
+        return numbers::answer_number(Answer::STATE);
     }
-    let geometry = Geometry {
-        page_size: page_size as usize,
-        page_count: page_count as usize,
-        first_page: first_page as usize,
+    let setup = Setup {
+        width: W::WIDTH,
+        geometry: Geometry {
+            page_size: page_size as usize,
+            page_count: page_count as usize,
+            first_page: first_page as usize,
+        },
+        circular: circular != 0,
     };
-    let circles = circular != 0;
     let reads = read_client != 0;
     let appends = append_client != 0;
-    match restart::restart(width, geometry, circles, reads, appends, volume, page, hold) {
-        Restarted::Shape => block::SHAPE,
-        Restarted::Log(log) => {
-            block::save_sizes(geometry, numbers::flags(circles, reads, appends), block);
-            block::save(width, outcome::still(log, Answer::OK), block)
+    match restart::restart(setup, reads, appends, volume, page, hold) {
+        Ok(log) => {
+            block::save_setup(&log, block);
+            block::save::<W>(&outcome::still(log, Answer::OK), block)
         }
+        Err(answer) => numbers::answer_number(answer),
     }
 }

@@ -4,7 +4,7 @@ ghost use Rattle.engine_call.specs.Outcome.{lend};
 ghost use Rattle.punelovash_block.specs.Block.{is_set, setup_from};
 ghost use Rattle.punelovash_block.specs.Call.{block_done, restart_block};
 
-use punelovash::restart;
+use punelovash_block::restart;
 
 // Restarts the log on a volume. Flags are 0 or not.
 #[unsafe(no_mangle)]
@@ -24,7 +24,7 @@ pub extern "C" fn punelovash_restart(
         ≡ restart_block 4 block.old (setup_from 4 page_size page_count first_page (is_set circular))
         (is_set read_client) (is_set append_client) (lend volume.now page.old hold.now) }
 {
-    restart::punelovash_restart(
+    restart::restart::<u32>(
         block,
         page_size,
         page_count,

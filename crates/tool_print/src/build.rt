@@ -1,64 +1,42 @@
-// Pages and volumes to run the cases on. What doesn't fit is left out, so that nothing is asked of a caller.
-use crate::sizes;
-use crate::sizes::{board, count};
-use page::id::EntryID;
+// Pages to run the cases on. What doesn't fit is left out, so that nothing is asked of a caller.
+ghost use Rattle.std.specs.Prelude.{◌≡◌, ◌+◌, ◌<◌, ◌≤◌, length, replicate};
+ghost use Rattle.page.specs.Word.{word_bytes};
+ghost use Rattle.page.specs.Bytes.{overwrite};
+ghost use Rattle.page.specs.Layout.{encode};
 
-// A page's header.
-pub fn header(width: usize, page: &mut [u8], id: usize) {
-    let w = board(width);
-    if page.len() < w {
-        return;
-    }
-    page::layout::write_page_header(w, page, EntryID(id));
-}
+use crate::board::Board;
 
-// An entry of n bytes, all 7, at an offset, and the offset past it.
-pub fn sevens(width: usize, page: &mut [u8], at: usize, n: usize) -> usize {
-    let data = [7u8; 64];
-    let w = board(width);
-    if 64 < n {
-        return at;
+impl Board {
+    // A bare word at an offset: a header, or a damaged page's length.
+    pub fn word(self, page: &mut [u8], at: usize, n: usize)
+        ensures fits { at + self.width ≤ length page.old → page.new ≡ overwrite page.old at (word_bytes self.width n) }
+        ensures too_far { length page.old < at + self.width → page.new ≡ page.old }
+    {
+        if self.width <= page.len().saturating_sub(at) {
+            page::word::write_word(self.width, page, at, n);
+        }
     }
-    if page.len() < n + w {
-        return at;
-    }
-    if page.len() - (n + w) < at {
-        return at;
-    }
-    page::layout::write_entry(w, page, at, &data[..n]);
-    at + w + n
-}
 
-// A bare word at an offset, as a damaged page may have it.
-pub fn word(width: usize, page: &mut [u8], at: usize, n: usize) {
-    let w = board(width);
-    if page.len() < w {
-        return;
+    // An entry of n bytes, all 7, at an offset, and the offset past it.
+    pub fn sevens(self, page: &mut [u8], at: usize, n: usize) -> usize
+        ensures fits { n ≤ 64 → at + self.width + n ≤ length page.old
+            → (result ≡ at + self.width + n) × (page.new ≡ overwrite page.old at (encode self.width (replicate n 7))) }
+        ensures too_far { length page.old < at + self.width + n → (result ≡ at) × (page.new ≡ page.old) }
+    {
+        let data = [7; 64];
+        if n <= data.len() && self.width + n <= page.len().saturating_sub(at) {
+            page::layout::write_entry(self.width, page, at, &data[..n]);
+            return at + self.width + n;
+        }
+        at
     }
-    if page.len() - w < at {
-        return;
+
+    // A page with this header and one entry of n bytes.
+    pub fn page(self, page: &mut [u8], id: usize, n: usize)
+        ensures fits { n ≤ 64 → self.width + self.width + n ≤ length page.old
+            → page.new ≡ overwrite (overwrite page.old 0 (word_bytes self.width id)) self.width (encode self.width (replicate n 7)) }
+    {
+        self.word(page, 0, id);
+        self.sevens(page, self.width, n);
     }
-    page::word::write_word(w, page, at, n);
-}
-
-// Four header words, in the slots' order.
-pub fn slots(width: usize, volume: &mut [u8], a: usize, b: usize, c: usize, d: usize) {
-    word(width, volume, 0, a);
-    word(width, volume, count(width, 1, 0, 0), b);
-    word(width, volume, count(width, 2, 0, 0), c);
-    word(width, volume, count(width, 3, 0, 0), d);
-}
-
-// A page with this header into a slot, with one entry of n bytes.
-pub fn page(width: usize, volume: &mut [u8], slot: u8, id: usize, n: usize) {
-    word(width, volume, count(width, slot, 0, 0), id);
-    sevens(width, volume, count(width, slot, 1, 0), n);
-}
-
-// A page's own first ID; for the number 255 the word of an erased page, which is none.
-pub fn first_id(width: usize, page: u8) -> usize {
-    if page == 255 {
-        return sizes::largest_word(width);
-    }
-    count(width, page, 0, 0)
 }

@@ -1,6 +1,6 @@
-// What the programs of cases share: the sizes that go with a width, lines of output, and pages and volumes to run on.
+// What the programs of cases share: the sizes of a board, pages and volumes to run on, and lines of output.
 #![tactic(auto)]
 
+pub mod board;
 pub mod build;
 pub mod print;
-pub mod sizes;

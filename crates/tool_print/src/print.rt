@@ -1,61 +1,36 @@
-// Lines of output: a label, then numbers. The labels of a group of cases are the lines of one text. A write that fails ends the line with its error.
-use std::io;
+// Lines of output: a label, then what the case gave. A write that fails ends the line with its error.
+use crate::board::Board;
+use std::fmt::Display;
+use std::{fmt, io};
 
-// A byte of a text, written where its line is the one asked for; the number of the line after it.
-fn put(rt: &impl Print, byte: u8, line: usize, asked: usize) -> io::Result<usize> {
-    if byte == 10 {
-        return Ok(std::num::wrapping_add_usize(line, 1));
+// Numbers, a space before each.
+#[derive(Drop)]
+pub struct Row<'a, T>(pub &'a [T]);
+
+impl<T: Display> Display for Row<'_, T> {
+    fn fmt<W: fmt::Write>(&self, f: &mut fmt::Formatter<W>) -> fmt::Result {
+        for n in self.0 {
+            write!(f, " {n}")?;
+        }
+        Ok(())
     }
-    if line == asked {
-        rt.write_all(&[byte])?;
+}
+
+// Where the cases of a board are written.
+#[derive(Drop)]
+pub struct Cases<'a, P: Print> {
+    pub rt: &'a P,
+    pub board: Board,
+}
+
+impl<P: Print> Cases<'_, P> {
+    // A label and a value.
+    pub fn line(&self, label: &str, value: impl Display + Drop) -> io::Result<()> {
+        println!(self.rt; "{label}: {value}")
     }
-    Ok(line)
-}
 
-// A line of a text, counted from 0, and a colon.
-pub fn label(rt: &impl Print, text: &[u8], asked: usize) -> io::Result<()> {
-    let mut line: usize = 0;
-    let mut i: usize = 0;
-    while i < text.len() {
-        let byte = text[i];
-        line = put(rt, byte, line, asked)?;
-        i += 1;
+    // A label and the bytes of a slice, each as a number.
+    pub fn bytes(&self, label: &str, bytes: &[u8]) -> io::Result<()> {
+        println!(self.rt; "{label}:{}", Row(bytes))
     }
-    rt.write_all(b":")
-}
-
-pub fn number(rt: &impl Print, n: usize) -> io::Result<()> {
-    print!(rt; " {n}")
-}
-
-pub fn word(rt: &impl Print, text: &[u8]) -> io::Result<()> {
-    rt.write_all(b" ")?;
-    rt.write_all(text)
-}
-
-pub fn end(rt: &impl Print) -> io::Result<()> {
-    rt.write_all(b"\n")
-}
-
-// A label and one number.
-pub fn line(rt: &impl Print, text: &[u8], asked: usize, n: usize) -> io::Result<()> {
-    label(rt, text, asked)?;
-    number(rt, n)?;
-    end(rt)
-}
-
-fn wide(byte: u8) -> usize {
-    byte as usize
-}
-
-// A label and the bytes of a slice, each as a number.
-pub fn bytes(rt: &impl Print, text: &[u8], asked: usize, b: &[u8]) -> io::Result<()> {
-    label(rt, text, asked)?;
-    let mut i: usize = 0;
-    while i < b.len() {
-        let byte = b[i];
-        number(rt, wide(byte))?;
-        i += 1;
-    }
-    end(rt)
 }

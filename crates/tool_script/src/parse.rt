@@ -1,24 +1,140 @@
 // A line of the script, read as a call.
-use crate::text;
-use crate::text::Number;
+use crate::buffer::Buffer;
+use crate::fault::Fault;
+use crate::words::{Word, Words};
 use bench_flash::event::{Call, Completion};
 use bench_flash::operation::Left;
 use engine_call::outcome::Driver;
 use engine_state::state::State;
 use page::id::EntryID;
+use std::fmt;
 
-// What is wrong with a line.
-#[derive(Clone, Copy)]
-pub enum Fault {
-    Nothing,
-    Unknown,
-    Place,
-    Words,
-    Number,
-    Bytes,
-    Word,
+// A line's first word.
+#[derive(Clone, Copy, PartialEq, Eq)]
+pub enum Name {
+    Sizes,
     Volume,
-    Long,
+    Restart,
+    Append,
+    Read,
+    Seek,
+    Sync,
+    Erase,
+    Deferred,
+    WriteComplete,
+    EraseComplete,
+    Cut,
+    Get,
+    Survey,
+    State,
+}
+
+impl Word for Name {
+    fn from_word(word: &[u8]) -> Option<Self> {
+        match word {
+            b"sizes" => Some(Name::Sizes),
+            b"volume" => Some(Name::Volume),
+            b"restart" => Some(Name::Restart),
+            b"append" => Some(Name::Append),
+            b"read" => Some(Name::Read),
+            b"seek" => Some(Name::Seek),
+            b"sync" => Some(Name::Sync),
+            b"erase" => Some(Name::Erase),
+            b"deferred" => Some(Name::Deferred),
+            b"write_complete" => Some(Name::WriteComplete),
+            b"erase_complete" => Some(Name::EraseComplete),
+            b"cut" => Some(Name::Cut),
+            b"get" => Some(Name::Get),
+            b"survey" => Some(Name::Survey),
+            b"state" => Some(Name::State),
+            _ => None,
+        }
+    }
+}
+
+impl fmt::Display for Name {
+    fn fmt<W: fmt::Write>(&self, f: &mut fmt::Formatter<W>) -> fmt::Result {
+        f.write_str(match self {
+            Name::Sizes => "sizes",
+            Name::Volume => "volume",
+            Name::Restart => "restart",
+            Name::Append => "append",
+            Name::Read => "read",
+            Name::Seek => "seek",
+            Name::Sync => "sync",
+            Name::Erase => "erase",
+            Name::Deferred => "deferred",
+            Name::WriteComplete => "write_complete",
+            Name::EraseComplete => "erase_complete",
+            Name::Cut => "cut",
+            Name::Get => "get",
+            Name::Survey => "survey",
+            Name::State => "state",
+        })
+    }
+}
+
+impl Word for Driver {
+    fn from_word(word: &[u8]) -> Option<Self> {
+        match word {
+            b"ok" => Some(Driver::OK),
+            b"busy" => Some(Driver::BUSY),
+            b"fail" => Some(Driver::FAIL),
+            _ => None,
+        }
+    }
+}
+
+impl Word for Left {
+    fn from_word(word: &[u8]) -> Option<Self> {
+        match word {
+            b"old" => Some(Left::Old),
+            b"blank" => Some(Left::Blank),
+            b"new" => Some(Left::New),
+            _ => None,
+        }
+    }
+}
+
+impl Word for State {
+    fn from_word(word: &[u8]) -> Option<Self> {
+        match word {
+            b"idle" => Some(State::Idle),
+            b"read" => Some(State::Read),
+            b"seek" => Some(State::Seek),
+            b"append" => Some(State::Append),
+            b"sync" => Some(State::Sync),
+            b"erase" => Some(State::Erase),
+            _ => None,
+        }
+    }
+}
+
+// How an operation ended.
+#[derive(Clone, Copy)]
+enum End {
+    Well,
+    Badly,
+}
+
+impl Word for End {
+    fn from_word(word: &[u8]) -> Option<Self> {
+        match word {
+            b"ok" => Some(End::Well),
+            b"fail" => Some(End::Badly),
+            _ => None,
+        }
+    }
+}
+
+// A state in place of the log's: its name, the IDs O, R and A, and the kept length.
+#[derive(Clone, Copy)]
+pub struct Put {
+    pub state: State,
+    pub oldest: EntryID,
+    pub read: EntryID,
+    pub append: EntryID,
+    pub length: usize,
 }
 
 // The lines that are no call of the log's engine.
@@ -28,207 +144,81 @@ pub enum Other {
     Get,
     Survey(usize),
     Volume,
-    Put(State, usize, usize, usize, usize),
+    Put(Put),
 }
 
-// A line after the first three. The client's buffer stands beside a call; its length is given with the calls that have one.
+// A line after the first three. The client's buffer stands beside a call.
 #[derive(Clone, Copy)]
 pub enum Line {
-    Call(Call, usize),
+    Call(Call),
     Complete(Completion, Left),
     Other(Other),
-    Bad(Fault),
 }
 
-// The driver's word.
-#[derive(Clone, Copy)]
-pub enum Said {
-    Word(Driver),
-    Bad,
+fn append<const SIZE: usize>(mut words: Words, client: &mut Buffer<SIZE>) -> Result<Line, Fault> {
+    let length = words.number()?;
+    words.bytes(client)?;
+    Ok(Line::Call(Call::Append(length, words.word()?)))
 }
 
-fn driver(word: &[u8]) -> Said {
-    let n = text::position(word, b"ok busy fail");
-    match n {
-        0 => Said::Word(Driver::OK),
-        1 => Said::Word(Driver::BUSY),
-        2 => Said::Word(Driver::FAIL),
-        _ => Said::Bad,
-    }
-}
-
-fn append(line: &[u8], client: &mut [u8]) -> Line {
-    let Number::Value(length) = text::value(text::word(line, 1)) else {
-        return Line::Bad(Fault::Number);
-    };
-    let Number::Value(room) = text::bytes(text::word(line, 2), client) else {
-        return Line::Bad(Fault::Bytes);
-    };
-    let Said::Word(word) = driver(text::word(line, 3)) else {
-        return Line::Bad(Fault::Word);
-    };
-    Line::Call(Call::Append(length, word), room)
-}
-
-fn read(line: &[u8], client: &mut [u8]) -> Line {
-    let Number::Value(length) = text::value(text::word(line, 1)) else {
-        return Line::Bad(Fault::Number);
-    };
-    let Number::Value(room) = text::bytes(text::word(line, 2), client) else {
-        return Line::Bad(Fault::Bytes);
-    };
-    Line::Call(Call::Read(length), room)
-}
-
-fn seek(line: &[u8]) -> Line {
-    let Number::Value(id) = text::value(text::word(line, 1)) else {
-        return Line::Bad(Fault::Number);
-    };
-    Line::Call(Call::Seek(EntryID(id)), 0)
-}
-
-fn survey(line: &[u8]) -> Line {
-    let Number::Value(count) = text::limited(text::word(line, 1), 4096) else {
-        return Line::Bad(Fault::Number);
-    };
-    Line::Other(Other::Survey(count))
-}
-
-fn sync(line: &[u8]) -> Line {
-    let Said::Word(word) = driver(text::word(line, 1)) else {
-        return Line::Bad(Fault::Word);
-    };
-    Line::Call(Call::Sync(word), 0)
-}
-
-fn erase(line: &[u8]) -> Line {
-    let Said::Word(word) = driver(text::word(line, 1)) else {
-        return Line::Bad(Fault::Word);
-    };
-    Line::Call(Call::Erase(word), 0)
-}
-
-// Two words, each of a list, as one number: the first's place times 4, and the second's. 16 where one is in no list.
-fn both(first: usize, second: usize) -> usize {
-    if 3 < first {
-        return 16;
-    }
-    if 3 < second {
-        return 16;
-    }
-    first * 4 + second
+fn read<const SIZE: usize>(mut words: Words, client: &mut Buffer<SIZE>) -> Result<Line, Fault> {
+    let length = words.number()?;
+    words.bytes(client)?;
+    Ok(Line::Call(Call::Read(length)))
 }
 
 // After `ok` a write leaves the new page; after `fail` one of three.
-fn write_complete(line: &[u8]) -> Line {
-    let result = text::position(text::word(line, 1), b"ok fail");
-    let left = text::position(text::word(line, 2), b"old blank new");
-    let n = both(result, left);
-    match n {
-        2 => Line::Complete(Completion::Write(true), Left::New),
-        4 => Line::Complete(Completion::Write(false), Left::Old),
-        5 => Line::Complete(Completion::Write(false), Left::Blank),
-        6 => Line::Complete(Completion::Write(false), Left::New),
-        _ => Line::Bad(Fault::Word),
+fn write_complete(mut words: Words) -> Result<Line, Fault> {
+    match (words.word()?, words.word()?) {
+        (End::Well, Left::New) => Ok(Line::Complete(Completion::Write(true), Left::New)),
+        (End::Well, _) => Err(Fault::Word),
+        (End::Badly, left) => Ok(Line::Complete(Completion::Write(false), left)),
     }
 }
 
 // After `ok` an erase leaves 0xFF everywhere; after `fail` one of two.
-fn erase_complete(line: &[u8]) -> Line {
-    let Said::Word(word) = driver(text::word(line, 3)) else {
-        return Line::Bad(Fault::Word);
-    };
-    let result = text::position(text::word(line, 1), b"ok fail");
-    let left = text::position(text::word(line, 2), b"old blank");
-    let n = both(result, left);
-    match n {
-        1 => Line::Complete(Completion::Erase(true, word), Left::Blank),
-        4 => Line::Complete(Completion::Erase(false, word), Left::Old),
-        5 => Line::Complete(Completion::Erase(false, word), Left::Blank),
-        _ => Line::Bad(Fault::Word),
+fn erase_complete(mut words: Words) -> Result<Line, Fault> {
+    let (end, left, word) = (words.word()?, words.word()?, words.word()?);
+    match (end, left) {
+        (End::Well, Left::Blank) => Ok(Line::Complete(Completion::Erase(true, word), left)),
+        (End::Badly, Left::Old | Left::Blank) => {
+            Ok(Line::Complete(Completion::Erase(false, word), left))
+        }
+        (End::Well, Left::Old | Left::New) | (End::Badly, Left::New) => Err(Fault::Word),
     }
 }
 
-// What an operation under way leaves.
-fn cut(line: &[u8]) -> Line {
-    let n = text::position(text::word(line, 1), b"old blank new");
-    match n {
-        0 => Line::Other(Other::Cut(Left::Old)),
-        1 => Line::Other(Other::Cut(Left::Blank)),
-        2 => Line::Other(Other::Cut(Left::New)),
-        _ => Line::Bad(Fault::Word),
-    }
+fn state_put(mut words: Words) -> Result<Line, Fault> {
+    Ok(Line::Other(Other::Put(Put {
+        state: words.word()?,
+        oldest: EntryID(words.number()?),
+        read: EntryID(words.number()?),
+        append: EntryID(words.number()?),
+        length: words.number()?,
+    })))
 }
 
-// The state with a name.
-#[derive(Clone, Copy)]
-pub enum Named {
-    State(State),
-    Bad,
-}
-
-fn state_named(word: &[u8]) -> Named {
-    let n = text::position(word, b"idle read seek append sync erase");
-    match n {
-        0 => Named::State(State::Idle),
-        1 => Named::State(State::Read),
-        2 => Named::State(State::Seek),
-        3 => Named::State(State::Append),
-        4 => Named::State(State::Sync),
-        5 => Named::State(State::Erase),
-        _ => Named::Bad,
-    }
-}
-
-fn put(line: &[u8]) -> Line {
-    let Named::State(state) = state_named(text::word(line, 1)) else {
-        return Line::Bad(Fault::Word);
-    };
-    let Number::Value(o) = text::value(text::word(line, 2)) else {
-        return Line::Bad(Fault::Number);
-    };
-    let Number::Value(r) = text::value(text::word(line, 3)) else {
-        return Line::Bad(Fault::Number);
-    };
-    let Number::Value(a) = text::value(text::word(line, 4)) else {
-        return Line::Bad(Fault::Number);
-    };
-    let Number::Value(kept) = text::value(text::word(line, 5)) else {
-        return Line::Bad(Fault::Number);
-    };
-    Line::Other(Other::Put(state, o, r, a, kept))
-}
-
-// A line with no more than so many words after its name.
-fn within(line: &[u8], words: usize, parsed: Line) -> Line {
-    if text::last(line, words) {
-        return parsed;
-    }
-    Line::Bad(Fault::Words)
-}
-
-// A line after the first three.
-pub fn parse_line(line: &[u8], client: &mut [u8]) -> Line {
-    let n = text::position(
-        text::word(line, 0),
-        b"append read seek survey sync erase write_complete erase_complete state deferred get volume cut restart sizes",
-    );
-    match n {
-        0 => within(line, 3, append(line, client)),
-        1 => within(line, 2, read(line, client)),
-        2 => within(line, 1, seek(line)),
-        3 => within(line, 1, survey(line)),
-        4 => within(line, 1, sync(line)),
-        5 => within(line, 1, erase(line)),
-        6 => within(line, 2, write_complete(line)),
-        7 => within(line, 3, erase_complete(line)),
-        8 => within(line, 5, put(line)),
-        9 => within(line, 0, Line::Call(Call::Deferred, 0)),
-        10 => within(line, 0, Line::Other(Other::Get)),
-        11 => within(line, 0, Line::Other(Other::Volume)),
-        12 => within(line, 1, cut(line)),
-        13 => Line::Bad(Fault::Place),
-        14 => Line::Bad(Fault::Place),
-        _ => Line::Bad(Fault::Unknown),
+// A line after the first three, of which the words after its name are given. BYTES go to the client's buffer.
+pub fn parse_line<const SIZE: usize>(
+    name: Name,
+    words: Words,
+    client: &mut Buffer<SIZE>,
+) -> Result<Line, Fault> {
+    client.clear();
+    match name {
+        Name::Sizes | Name::Restart => Err(Fault::Place),
+        Name::Append => append(words.at_most(3)?, client),
+        Name::Read => read(words.at_most(2)?, client),
+        Name::Seek => Ok(Line::Call(Call::Seek(EntryID(words.at_most(1)?.number()?)))),
+        Name::Sync => Ok(Line::Call(Call::Sync(words.at_most(1)?.word()?))),
+        Name::Erase => Ok(Line::Call(Call::Erase(words.at_most(1)?.word()?))),
+        Name::Deferred => words.at_most(0).map(|_| Line::Call(Call::Deferred)),
+        Name::WriteComplete => write_complete(words.at_most(2)?),
+        Name::EraseComplete => erase_complete(words.at_most(3)?),
+        Name::Cut => Ok(Line::Other(Other::Cut(words.at_most(1)?.word()?))),
+        Name::Get => words.at_most(0).map(|_| Line::Other(Other::Get)),
+        Name::Survey => Ok(Line::Other(Other::Survey(words.at_most(1)?.number_up_to(4096)?))),
+        Name::Volume => words.at_most(0).map(|_| Line::Other(Other::Volume)),
+        Name::State => state_put(words.at_most(5)?),
     }
 }

@@ -1,153 +1,153 @@
-// A line of the trace, put together in a buffer and written at its end. `at` is the offset of the next byte.
-use crate::text;
+// The trace: its lines, and what they say as it is printed.
+use crate::buffer::Buffer;
 use engine_call::outcome::Outcome;
+use engine_restart::board_word::Word;
 use engine_state::answer::{Report, Request};
-use engine_state::state::Log;
-use engine_state::{answer, state};
-use std::io;
+use engine_state::state::{Log, State};
+use std::fmt::{Display, Write};
+use std::{fmt, io, str};
 
-// A byte goes to the line; one that has no room is left out.
-fn put_byte(line: &mut [u8], at: usize, byte: u8) -> usize {
-    if at < line.len() {
-        line[at] = byte;
-        return at + 1;
+// The trace, written a line at a time. A longest line is a volume of 65,536 bytes.
+#[derive(Drop)]
+pub struct Trace<'a, P: Print> {
+    rt: &'a P,
+    line: Buffer<131328>,
+}
+
+impl<'a, P: Print> Trace<'a, P> {
+    pub fn new(rt: &'a P) -> Self {
+        Trace {
+            rt,
+            line: Buffer::new(),
+        }
     }
-    at
-}
 
-// A word goes to the line.
-pub fn put(line: &mut [u8], at: usize, word: &[u8]) -> usize {
-    let mut end = at;
-    let mut i: usize = 0;
-    while i < word.len() {
-        end = put_byte(line, end, word[i]);
-        i += 1;
-    }
-    end
-}
-
-// A word goes to the line, after a space.
-pub fn field(line: &mut [u8], at: usize, word: &[u8]) -> usize {
-    let start = put_byte(line, at, b' ');
-    put(line, start, word)
-}
-
-// A number, after a space.
-pub fn number(line: &mut [u8], at: usize, n: usize) -> usize {
-    let mut digits = itoa::Buffer::new();
-    field(line, at, digits.format(n).as_bytes())
-}
-
-// A digit below 16 in hexadecimal.
-fn digit(n: u8) -> u8 {
-    let d = n % 16;
-    if d < 10 { b'0' + d } else { b'a' + (d - 10) }
-}
-
-// BYTES, after a space.
-pub fn bytes(line: &mut [u8], at: usize, bytes: &[u8]) -> usize {
-    if bytes.len() == 0 {
-        return field(line, at, b"-");
-    }
-    let mut end = put_byte(line, at, b' ');
-    let mut i: usize = 0;
-    while i < bytes.len() {
-        let byte = bytes[i];
-        let middle = put_byte(line, end, digit(byte / 16));
-        end = put_byte(line, middle, digit(byte));
-        i += 1;
-    }
-    end
-}
-
-fn wide(id: u64) -> usize {
-    id as usize
-}
-
-// Words of a survey.
-pub fn words(line: &mut [u8], at: usize, ids: &[u64]) -> usize {
-    let mut end = at;
-    let mut i: usize = 0;
-    while i < ids.len() {
-        end = number(line, end, wide(ids[i]));
-        i += 1;
-    }
-    end
-}
-
-// A line's name and two numbers.
-pub fn pair(line: &mut [u8], name: &[u8], a: usize, b: usize) -> usize {
-    let start = put(line, 0, name);
-    let middle = number(line, start, a);
-    number(line, middle, b)
-}
-
-// The line is written.
-pub fn end(rt: &impl Print, line: &mut [u8], at: usize) -> io::Result<()> {
-    let stop = put_byte(line, at, b'\n');
-    rt.write_all(text::part(line, 0, stop))
-}
-
-fn append_report(line: &mut [u8], at: usize, length: usize, lost: bool, res: u8) -> usize {
-    let name = field(line, at, b"append_done");
-    let size = number(line, name, length);
-    let flag = number(line, size, if lost { 1 } else { 0 });
-    number(line, flag, res as usize)
-}
-
-// A name out of the list of those that a number follows, and the number.
-fn named(line: &mut [u8], at: usize, name: usize, n: usize) -> usize {
-    let list = b"sync_done erase_done read_done seek_done write erase";
-    let start = field(line, at, text::word(list, name));
-    number(line, start, n)
-}
-
-fn report(line: &mut [u8], at: usize, report: Report) -> usize {
-    match report {
-        Report::Nothing => field(line, at, b"-"),
-        Report::AppendDone(length, lost, result) => append_report(line, at, length, lost, result),
-        Report::SyncDone(result) => named(line, at, 0, result as usize),
-        Report::EraseDone(result) => named(line, at, 1, result as usize),
-        Report::ReadDone(length) => read_report(line, at, length),
-        Report::SeekDone => named(line, at, 3, 0),
+    // A line. `println!` would write it in pieces of 1,024 bytes, which takes twice as long where pages have 4,096.
+    pub fn line<D: Display + Drop>(&mut self, line: D) -> io::Result<()> {
+        self.line.clear();
+        writeln!(self.line, "{line}")?;
+        self.rt.write_all(self.line.as_slice())
     }
 }
 
-fn read_report(line: &mut [u8], at: usize, length: usize) -> usize {
-    let size = named(line, at, 2, length);
-    number(line, size, 0)
-}
+// BYTES: two hexadecimal digits for each byte, or `-` for no bytes.
+#[derive(Clone, Copy)]
+pub struct Bytes<'a>(pub &'a [u8]);
 
-fn request(line: &mut [u8], at: usize, request: Request) -> usize {
-    match request {
-        Request::Nothing => field(line, at, b"-"),
-        Request::Write(page) => named(line, at, 4, page.0),
-        Request::Erase(page) => named(line, at, 5, page.0),
+// The digits, and how many bytes are printed at a time.
+static DIGITS: [u8; 16] = *b"0123456789abcdef";
+
+const BLOCK: usize = 64;
+
+// The digits of as many bytes as `out` has room for.
+fn put_digits(bytes: &[u8], out: &mut [u8]) {
+    for (pair, byte) in out.chunks_exact_mut(2).zip(bytes) {
+        pair[0] = DIGITS[*byte as usize / 16];
+        pair[1] = DIGITS[*byte as usize % 16];
     }
 }
 
-// The state and its IDs.
-pub fn log_fields(line: &mut [u8], at: usize, log: Log) -> usize {
-    let state = log.state;
-    let list = b"idle read seek append sync erase";
-    let start = field(
-        line,
-        at,
-        text::word(list, state::state_number(state) as usize),
-    );
-    let oldest = number(line, start, log.oldest_entry_id.0);
-    let read = number(line, oldest, log.read_entry_id.0);
-    let append = number(line, read, log.append_entry_id.0);
-    number(line, append, log.length)
+impl fmt::Display for Bytes<'_> {
+    // A block at a time: with `{:02x}` for each byte a long line takes three times as long.
+    fn fmt<W: fmt::Write>(&self, f: &mut fmt::Formatter<W>) -> fmt::Result {
+        if self.0.is_empty() {
+            return f.write_str("-");
+        }
+        for bytes in self.0.chunks(BLOCK) {
+            let mut digits = [0; 2 * BLOCK];
+            put_digits(bytes, &mut digits);
+            let end = 2 * bytes.len().min(BLOCK);
+            f.write_str(str::from_utf8(&digits[..end]).map_err(|_| fmt::Error)?)?;
+        }
+        Ok(())
+    }
+}
+
+// The words of a survey, each after a space.
+#[derive(Clone, Copy)]
+pub struct IDs<'a, B>(pub &'a [B]);
+
+impl<B: Word> fmt::Display for IDs<'_, B> {
+    fn fmt<W: fmt::Write>(&self, f: &mut fmt::Formatter<W>) -> fmt::Result {
+        for word in self.0 {
+            write!(f, " {}", word.id())?;
+        }
+        Ok(())
+    }
+}
+
+// A report, or `-`.
+#[derive(Clone, Copy)]
+pub struct Reported(pub Option<Report>);
+
+impl fmt::Display for Reported {
+    fn fmt<W: fmt::Write>(&self, f: &mut fmt::Formatter<W>) -> fmt::Result {
+        match self.0 {
+            None => write!(f, "-"),
+            Some(Report::AppendDone(length, lost, result)) => {
+                let result = u8::from(result);
+                write!(f, "append_done {length} {} {result}", u8::from(lost))
+            }
+            Some(Report::SyncDone(result)) => write!(f, "sync_done {}", u8::from(result)),
+            Some(Report::EraseDone(result)) => write!(f, "erase_done {}", u8::from(result)),
+            Some(Report::ReadDone(length)) => write!(f, "read_done {length} 0"),
+            Some(Report::SeekDone) => write!(f, "seek_done 0"),
+        }
+    }
+}
+
+// A request, or `-`.
+#[derive(Clone, Copy)]
+pub struct Requested(pub Option<Request>);
+
+impl fmt::Display for Requested {
+    fn fmt<W: fmt::Write>(&self, f: &mut fmt::Formatter<W>) -> fmt::Result {
+        match self.0 {
+            None => write!(f, "-"),
+            Some(Request::Write(page)) => write!(f, "write {}", page.0),
+            Some(Request::Erase(page)) => write!(f, "erase {}", page.0),
+        }
+    }
+}
+
+// A state's name. No Display, since the type is of another crate.
+fn state_name(state: State) -> &'static str {
+    match state {
+        State::Idle => "idle",
+        State::Read => "read",
+        State::Seek => "seek",
+        State::Append => "append",
+        State::Sync => "sync",
+        State::Erase => "erase",
+    }
+}
+
+// The state, its IDs and the kept length.
+#[derive(Clone, Copy)]
+pub struct Fields(pub Log);
+
+impl fmt::Display for Fields {
+    fn fmt<W: fmt::Write>(&self, f: &mut fmt::Formatter<W>) -> fmt::Result {
+        let log = self.0;
+        let state = state_name(log.state);
+        let (oldest, read, append) = (
+            log.oldest_entry_id.0,
+            log.read_entry_id.0,
+            log.append_entry_id.0,
+        );
+        write!(f, "{state} {oldest} {read} {append} {}", log.length)
+    }
 }
 
 // All of an outcome, after the call's name.
-pub fn outcome(line: &mut [u8], at: usize, given: Outcome) -> usize {
-    let answer = given.answer;
-    let said = given.report;
-    let asked = given.request;
-    let first = number(line, at, answer::answer_number(answer) as usize);
-    let second = report(line, first, said);
-    let third = request(line, second, asked);
-    log_fields(line, third, given.log)
+#[derive(Clone, Copy)]
+pub struct Given(pub Outcome);
+
+impl fmt::Display for Given {
+    fn fmt<W: fmt::Write>(&self, f: &mut fmt::Formatter<W>) -> fmt::Result {
+        let given = self.0;
+        let answer = u8::from(given.answer);
+        let (report, request) = (Reported(given.report), Requested(given.request));
+        write!(f, "{answer} {report} {request} {}", Fields(given.log))
+    }
 }

@@ -1,41 +1,37 @@
 -- `bench_run::entries::read_next` meets its contract.
-use mathlib.Core.Path.{refl, sym, ap, ◌∙◌}
-use native.Mathlib.Omega.{arith}
-use lib.ListN.{length}
-use Rattle.engine_state.specs.Log.{Log, log_of}
+use Rattle.std.proofs.Common.{length, refl, sym, ap, ◌∙◌, arith}
+use Rattle.engine_state.specs.Log.{log_of}
 use Rattle.engine_call.specs.Outcome.{Lent, Done, lend}
 use Rattle.bench_run.specs.Entries.{Roomy, no_room_left}
+use Rattle.bench_run.proofs.Compared.{is_ok, is_not_ok}
 use Rattle.bench_run.proofs.NextLaw.{next_stops, next_reads}
 use Rattle.bench_run.proofs.entries.read_next.Goals as goal
-use Rattle.bench_run.proofs.entries.read_next.Goals.{Else-out-width-2, Start}
-
-abbrev log : Start → Log
-log s = log_of s.args.width s.args.log
-
-abbrev lent : Start → Lent
-lent s = lend s.args.volume.now s.args.page.now s.args.hold.now
-
--- there is room for a word and a page
-room : (c : Else-out-width-2) → Roomy (log (goal.at.Else-out-width-2 c).Start).setup (length c.args.out.now)
-room c = omega (arith, c.if-out-width-2.false, c.if-out-width.false)
+use Rattle.bench_run.proofs.entries.read_next.Goals.{Else-out-width-2}
+use Rattle.bench_run.proofs.entries.read_next.Goals.{then-out-width-via-then-out-width, then-out-width-via-else-out-width+then-out-width-2}
 
 pub returns-then-out-width : goal.returns-then-out-width
-returns-then-out-width c = no_room_left (omega (arith, c.if-out-width.true)) refl
+returns-then-out-width c =
+    elim c.then-out-width.branch [
+      | then-out-width-via-then-out-width w ↦ no_room_left (omega (arith, w.if-out-width.true)) refl
+      | then-out-width-via-else-out-width+then-out-width-2 w ↦ no_room_left (omega (arith, w.if-out-width-2.true)) refl
+    ]
 
-pub returns-then-out-width-2 : goal.returns-then-out-width-2
-returns-then-out-width-2 c = no_room_left (omega (arith, c.if-out-width-2.true)) refl
+-- there is room for a word and a page
+room : (c : Else-out-width-2) → Roomy (log_of c.args.log).setup (length c.args.out.now)
+room c = omega (arith, c.if-out-width-2.false, c.if-out-width.false)
 
-pub returns-then-answer_number-ne0 : goal.returns-then-answer_number-ne0
-returns-then-answer_number-ne0 c =
-    let start = (goal.at.returns-then-answer_number-ne0 c).Start in
-    let else_out_width_2 = (goal.at.returns-then-answer_number-ne0 c).Else-out-width-2 in
-    next_stops (lent start) (log start) c.args.out.now (room else_out_width_2) c.read-given.ensures
-    (λ q. c.if-answer_number-ne0.true (c.answer_number.ensures ∙ q))
+abbrev lent : Else-out-width-2 → Lent
+lent c = let a = c.args in lend a.volume.now a.page.now a.hold.now
+
+pub returns-then-ne : goal.returns-then-ne
+returns-then-ne c =
+    let h = (goal.at.returns-then-ne c).Else-out-width-2 in
+    next_stops (lent h) (log_of c.args.log) c.args.out.now (room h) c.read-given.ensures (is_not_ok _ (sym c.ne.ensures ∙ c.if-ne.true))
 
 pub returns : goal.returns
 returns c =
-    let start = (goal.at.returns c).Start in
-    let else_out_width_2 = (goal.at.returns c).Else-out-width-2 in
-    let ok = sym c.answer_number.ensures ∙ c.if-answer_number-ne0.false in
-    let next = ap (λ (d : Done). d.outcome.log) (c.handle_deferred_call-after.ensures (lent start) (refl, refl, refl)) in
-    next_reads (lent start) (log start) c.args.out.now (room else_out_width_2) c.read-given.ensures ok c.requires.1 next c.write_word.ensures
+    let h = (goal.at.returns c).Else-out-width-2 in
+    let ok = is_ok _ (sym c.ne.ensures ∙ c.if-ne.false) in
+    let told = c.of.ensures in
+    let next = ap (λ (d : Done). d.outcome.log) (c.handle_deferred_call-after.ensures (lent h) (sym told.0, sym told.1, sym told.2)) in
+    next_reads (lent h) (log_of c.args.log) c.args.out.now (room h) c.read-given.ensures ok c.requires.1 next c.write_word.ensures

@@ -1,38 +1,27 @@
 -- `bench_step::calls::call` meets its contract.
-use mathlib.Core.Path.{refl}
-use Rattle.engine_call.specs.Outcome.{Lent, lend}
+use Rattle.std.proofs.Common.{sym}
+use Rattle.engine_call.specs.Outcome.{Lent, Lengths, lend}
 use Rattle.bench_step.proofs.calls.call.Goals as goal
-use Rattle.bench_step.proofs.calls.call.Goals.{Start}
+use Rattle.bench_step.proofs.calls.call.Goals.{After-of-lent}
 
-abbrev lent : Start → Lent
-lent s = lend s.args.volume.now s.args.page.now s.args.hold.now
+abbrev lent : After-of-lent → Lent
+lent c = lend c.args.volume.now c.args.page.now c.args.hold.now
 
-pub returns-in-Append : goal.returns-in-Append
-returns-in-Append c =
-    let is = c.in-Append.is in
-    (rw is c.append.ensures, rw is)
-
-pub returns-in-Sync : goal.returns-in-Sync
-returns-in-Sync c =
-    let is = c.in-Sync.is in
-    (rw is c.sync.ensures, rw is)
-
-pub returns-in-Read : goal.returns-in-Read
-returns-in-Read c =
-    let is = c.in-Read.is in
-    (rw is c.read.ensures.0, rw is c.read.ensures.1)
+-- what is lent has the lengths that are told
+lengths : (c : After-of-lent) → let n = c.of-lent.result in Lengths (lent c) n.volume n.page n.hold
+lengths c = let e = c.of-lent.ensures in (sym e.0, sym e.1, sym e.2)
 
 pub returns-in-Seek : goal.returns-in-Seek
 returns-in-Seek c =
-    let is = c.in-Seek.is in
-    (rw is (c.seek.ensures (lent (goal.at.returns-in-Seek c).Start) (refl, refl, refl)), rw is)
+    let told = (goal.at.returns-in-Seek c).After-of-lent in
+    (rw c.in-Seek.is (c.seek.ensures (lent told) (lengths told)), rw c.in-Seek.is)
 
 pub returns-in-Deferred : goal.returns-in-Deferred
 returns-in-Deferred c =
-    let is = c.in-Deferred.is in
-    (rw is (c.handle_deferred_call.ensures (lent (goal.at.returns-in-Deferred c).Start) (refl, refl, refl)), rw is)
+    let told = (goal.at.returns-in-Deferred c).After-of-lent in
+    (rw c.in-Deferred.is (c.handle_deferred_call.ensures (lent told) (lengths told)), rw c.in-Deferred.is)
 
 pub returns-in-Erase : goal.returns-in-Erase
 returns-in-Erase c =
-    let is = c.in-Erase.is in
-    (rw is (c.erase.ensures (lent (goal.at.returns-in-Erase c).Start) (refl, refl, refl)), rw is)
+    let told = (goal.at.returns-in-Erase c).After-of-lent in
+    (rw c.in-Erase.is (c.erase.ensures (lent told) (lengths told)), rw c.in-Erase.is)

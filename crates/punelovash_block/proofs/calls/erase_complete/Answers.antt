@@ -1,17 +1,16 @@
 -- `punelovash_block::calls::erase_complete` meets its contract.
-use Rattle.punelovash_block.proofs.Misfits.{lent_size, bad_runs, misfit_completes, lent_runs}
+use Rattle.engine_call.specs.Call.{erase_ended}
+use Rattle.engine_call.specs.Outcome.{lend}
+use Rattle.punelovash_block.specs.Block.{is_set, word_from}
+use Rattle.punelovash_block.proofs.Blocks.{loaded_runs}
+use Rattle.punelovash_block.proofs.Misfits.{refused_completes}
 use Rattle.punelovash_block.proofs.calls.erase_complete.Goals as goal
 
-pub save-requires : goal.save-requires
-save-requires c =
+pub returns-in-Ok : goal.returns-in-Ok
+returns-in-Ok g c = rw (← c.word_from-said.ensures) (search (loaded_runs, c.in-Ok.ensures, c.save.ensures, c.erase_complete-given.ensures))
+
+pub returns-in-Err : goal.returns-in-Err
+returns-in-Err g c =
     let a = c.args in
-    (c.requires, lent_size a.width a.block.now a.volume.now a.page.now a.hold.now c.load_lent.ensures c.in-Log.is)
-
-pub returns-in-Bad : goal.returns-in-Bad
-returns-in-Bad c = search bad_runs
-
-pub returns-in-Misfit : goal.returns-in-Misfit
-returns-in-Misfit c = search (misfit_completes, c.refuse_shape.ensures)
-
-pub returns-in-Log : goal.returns-in-Log
-returns-in-Log c = rw (← c.word_from-said.ensures) (search lent_runs)
+    let x = lend a.volume.now a.page.now a.hold.now in
+    refused_completes _ _ x _ c.of.ensures c.in-Err.ensures c.refuse.ensures (erase_ended (is_set a.good) (word_from a.word))

@@ -1,16 +1,18 @@
 -- `punelovash_block::calls::read` meets its contract.
-use Rattle.punelovash_block.proofs.Misfits.{lent_size, bad_runs, misfit_calls, lent_runs, bad_reads, misfit_reads, lent_reads}
-use borrow.Author.Rules.{rules}
+use Rattle.std.proofs.Common.{length}
+use Rattle.engine_call.specs.Call.{read}
+use Rattle.engine_call.specs.Outcome.{lend}
+use Rattle.punelovash_block.proofs.Blocks.{loaded_runs}
+use Rattle.punelovash_block.proofs.Misfits.{refused_calls, refused_reads}
 use Rattle.punelovash_block.proofs.calls.read.Goals as goal
 
-pub save-requires : goal.save-requires
-save-requires c = search (lent_size, rules)
+pub returns-in-Ok : goal.returns-in-Ok
+returns-in-Ok g c = (search (loaded_runs, c.in-Ok.ensures, c.save.ensures, c.read-given.ensures.0), rw c.in-Ok.ensures c.read-given.ensures.1)
 
-pub returns-in-Bad : goal.returns-in-Bad
-returns-in-Bad c = (search bad_runs, search bad_reads)
-
-pub returns-in-Misfit : goal.returns-in-Misfit
-returns-in-Misfit c = (search (misfit_calls, c.refuse_shape.ensures), search misfit_reads)
-
-pub returns-in-Log : goal.returns-in-Log
-returns-in-Log c = (search lent_runs, search lent_reads)
+pub returns-in-Err : goal.returns-in-Err
+returns-in-Err g c =
+    let a = c.args in
+    let x = lend a.volume.now a.page.now a.page.now in (
+      refused_calls _ _ x _ c.of.ensures c.in-Err.ensures c.refuse.ensures (read (length a.buffer.now) a.length),
+      refused_reads _ _ x _ c.of.ensures c.in-Err.ensures a.buffer.now a.length,
+    )

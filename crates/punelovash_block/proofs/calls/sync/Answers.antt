@@ -1,16 +1,16 @@
 -- `punelovash_block::calls::sync` meets its contract.
-use Rattle.punelovash_block.proofs.Misfits.{lent_size, bad_runs, misfit_calls, lent_runs}
-use borrow.Author.Rules.{rules}
+use Rattle.engine_call.specs.Call.{sync}
+use Rattle.engine_call.specs.Outcome.{lend}
+use Rattle.punelovash_block.specs.Block.{word_from}
+use Rattle.punelovash_block.proofs.Blocks.{loaded_runs}
+use Rattle.punelovash_block.proofs.Misfits.{refused_calls}
 use Rattle.punelovash_block.proofs.calls.sync.Goals as goal
 
-pub save-requires : goal.save-requires
-save-requires c = search (lent_size, rules)
+pub returns-in-Ok : goal.returns-in-Ok
+returns-in-Ok g c = rw (← c.word_from.ensures) (search (loaded_runs, c.in-Ok.ensures, c.save.ensures, c.sync-given.ensures))
 
-pub returns-in-Bad : goal.returns-in-Bad
-returns-in-Bad c = search bad_runs
-
-pub returns-in-Misfit : goal.returns-in-Misfit
-returns-in-Misfit c = search (misfit_calls, c.refuse_shape.ensures)
-
-pub returns-in-Log : goal.returns-in-Log
-returns-in-Log c = rw (← c.word_from-said.ensures) (search lent_runs)
+pub returns-in-Err : goal.returns-in-Err
+returns-in-Err g c =
+    let a = c.args in
+    let x = lend a.volume.now a.page.now a.hold.now in
+    refused_calls _ _ x _ c.of.ensures c.in-Err.ensures c.refuse.ensures (sync (word_from a.word))

@@ -1,16 +1,16 @@
 -- `punelovash_block::calls::write_complete` meets its contract.
-use Rattle.punelovash_block.proofs.Misfits.{lent_size, bad_runs, misfit_completes, lent_runs}
-use borrow.Author.Rules.{rules}
+use Rattle.engine_call.specs.Call.{write_ended}
+use Rattle.engine_call.specs.Outcome.{lend}
+use Rattle.punelovash_block.specs.Block.{is_set}
+use Rattle.punelovash_block.proofs.Blocks.{loaded_runs}
+use Rattle.punelovash_block.proofs.Misfits.{refused_completes}
 use Rattle.punelovash_block.proofs.calls.write_complete.Goals as goal
 
-pub save-requires : goal.save-requires
-save-requires c = search (lent_size, rules)
+pub returns-in-Ok : goal.returns-in-Ok
+returns-in-Ok g c = search (loaded_runs, c.in-Ok.ensures, c.save.ensures, c.write_complete-given.ensures)
 
-pub returns-in-Bad : goal.returns-in-Bad
-returns-in-Bad c = search bad_runs
-
-pub returns-in-Misfit : goal.returns-in-Misfit
-returns-in-Misfit c = search (misfit_completes, c.refuse_shape.ensures)
-
-pub returns-in-Log : goal.returns-in-Log
-returns-in-Log c = search lent_runs
+pub returns-in-Err : goal.returns-in-Err
+returns-in-Err g c =
+    let a = c.args in
+    let x = lend a.volume.now a.page.now a.hold.now in
+    refused_completes _ _ x _ c.of.ensures c.in-Err.ensures c.refuse.ensures (write_ended (is_set a.good))

@@ -1,9 +1,0 @@
--- `lists::lists` ends: each list takes the bytes before it and its own.
-use Rattle.std.proofs.Common.{length, ◌-◌, ◌≤◌}
-use Rattle.lists.proofs.lists.Given as goal
-
-abbrev pub invariant-loop-at : goal.invariant-loop-at
-invariant-loop-at g l = l.at ≤ length l.bytes
-
-abbrev pub decreases-loop-at : goal.decreases-loop-at
-decreases-loop-at g l = length l.bytes - l.at

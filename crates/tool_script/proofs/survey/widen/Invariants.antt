@@ -1,6 +1,0 @@
--- `tool_script::survey::widen` ends: each step passes a word.
-use Rattle.std.proofs.Common.{length, ◌-◌}
-use Rattle.tool_script.proofs.survey.widen.Given as goal
-
-abbrev pub decreases-loop-i : goal.decreases-loop-i
-decreases-loop-i l = length l.words - l.i

@@ -1,0 +1,2 @@
+-- What the contracts of scripts mean.
+pub mod Words

@@ -1,0 +1,84 @@
+// A buffer of fixed size.
+ghost use Rattle.std.specs.Prelude.{◌≡◌, ◌≤◌, ◌/◌, ◌↔◌, ◌++◌, length, take, replicate, IsSome, OnSome, IfNone};
+
+use crate::text;
+use std::fmt;
+
+// An array with how much of its front is in use: a Vec would allocate.
+#[derive(Drop)]
+pub struct Buffer<const SIZE: usize> {
+    bytes: [u8; SIZE],
+    len: usize,
+    ghost fits: { len ≤ SIZE },
+}
+
+impl<const SIZE: usize> Buffer<SIZE> {
+    // A buffer with no byte in use.
+    pub fn new() -> Self
+        ensures { result.len ≡ 0 }
+    {
+        Buffer {
+            bytes: [0; SIZE],
+            len: 0,
+        }
+    }
+
+    // The part that is in use.
+    pub fn as_slice(&self) -> &[u8]
+        ensures { result.now ≡ take self.now.len self.now.bytes }
+    {
+        &self.bytes[..self.len]
+    }
+
+    pub fn as_mut_slice(&mut self) -> &mut [u8]
+        ensures { result.now ≡ take self.old.len self.old.bytes }
+    {
+        let len = self.len;
+        let bytes = &mut self.bytes;
+        let all = &mut bytes[..];
+        &mut all[..len]
+    }
+
+    // No byte is in use any more.
+    pub fn clear(&mut self)
+        ensures { self.new.len ≡ 0 }
+    {
+        self.len = 0;
+    }
+
+    // So many bytes of one value are in use, where the buffer has room for them.
+    pub fn fill(&mut self, byte: u8, len: usize) -> Option<()>
+        ensures variant { IsSome result ↔ (len ≤ SIZE) }
+        ensures filled { OnSome result (take self.new.len self.new.bytes ≡ replicate len byte) }
+        ensures kept { IfNone result (self.new ≡ self.old) }
+    {
+        if SIZE < len {
+            return None;
+        }
+        text::fill(&mut self.bytes, byte, len);
+        self.len = len;
+        Some(())
+    }
+
+    // BYTES are in use, where the word is such and the buffer has room for them.
+    pub fn read(&mut self, word: &[u8]) -> Option<()>
+        ensures { OnSome result (self.new.len ≡ length word.now / 2) }
+    {
+        self.len = text::bytes(word, &mut self.bytes)?;
+        Some(())
+    }
+}
+
+// Text goes to the end of the part that is in use.
+impl<const SIZE: usize> fmt::Write for Buffer<SIZE> {
+    ghost write_str_gives = { λ old s new. take new.len new.bytes ≡ take old.len old.bytes ++ s };
+
+    fn write_str(&mut self, s: &str) -> fmt::Result {
+        if SIZE - self.len < s.len() {
+            return Err(fmt::Error);
+        }
+        text::put(&mut self.bytes, self.len, s.as_bytes());
+        self.len += s.len();
+        Ok(())
+    }
+}
