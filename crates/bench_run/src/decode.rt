@@ -50,6 +50,7 @@ impl From<Options> for Left {
     }
 }
 
+// A name for each flag, as its definition has one.
 impl Options {
     fn is_good(self) -> bool
         ensures { result ≡ good_from self.0 }

@@ -18,6 +18,7 @@ use engine_state::answer::{Answer, Report, Request};
 use engine_state::state::{Log, Setup, State};
 use page::id::EntryID;
 
+// The power and the log are two fields, as in the definition: with the power off the log is any.
 #[derive(Clone, Copy)]
 pub struct World {
     pub power: bool,

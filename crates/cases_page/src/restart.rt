@@ -55,7 +55,8 @@ fn sized(
             let oldest = log.oldest_entry_id.0;
             let read = log.read_entry_id.0;
             let append = log.append_entry_id.0;
-            on.line(label, format_args!("0 {oldest} {read} {append}"))?;
+            let ok = u8::from(Answer::OK);
+            on.line(label, format_args!("{ok} {oldest} {read} {append}"))?;
         }
         Err(answer) => on.line(label, u8::from(answer))?,
     }

@@ -38,7 +38,10 @@ fn into<W: Word>(
     ids: &mut [W],
 ) -> io::Result<()> {
     match survey::survey(geometry, volume, ids) {
-        Ok(n) => on.line(label, format_args!("0 {n}{}", IDs(ids))),
+        Ok(n) => on.line(
+            label,
+            format_args!("{} {n}{}", u8::from(Answer::OK), IDs(ids)),
+        ),
         Err(answer) => on.line(label, format_args!("{}{}", u8::from(answer), IDs(ids))),
     }
 }

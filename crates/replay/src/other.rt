@@ -4,6 +4,7 @@ use crate::stop::Stop;
 use bench_step::world::World;
 use engine_restart::board_word::Word;
 use engine_restart::survey;
+use engine_state::answer::Answer;
 use engine_state::get;
 use engine_state::state::Log;
 use std::io;
@@ -17,9 +18,10 @@ impl<P: Print> Replay<'_, P> {
     fn survey_into<W: Word>(&mut self, ids: &mut [W]) -> io::Result<()> {
         let geometry = self.bench.setup.geometry;
         let (answer, count) = match survey::survey(geometry, self.volume.as_slice(), ids) {
-            Ok(count) => (0, count),
-            Err(answer) => (u8::from(answer), 0),
+            Ok(count) => (Answer::OK, count),
+            Err(refusal) => (refusal, 0),
         };
+        let answer = u8::from(answer);
         let line = format_args!("survey {answer} {count}{}", IDs(ids));
         self.trace.line(line)
     }

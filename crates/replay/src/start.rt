@@ -16,7 +16,7 @@ use tool_script::words::{Word, Words};
 // The largest of the sizes: below 2^32.
 const LARGEST: usize = 4294967295;
 
-// The buffers' length before the first restart: P where SHAPE admits P, else none.
+// The buffers' length before the first restart: P where SHAPE admits P, else they are empty.
 fn buffer_size(setup: Setup) -> usize {
     let one_page = Geometry {
         page_count: 1,
@@ -145,7 +145,8 @@ impl<P: Print> Replay<'_, P> {
             return self.trace.line(line);
         }
         let fields = Fields(self.bench.world.log);
-        let line = format_args!("restart 0 - - {fields} {page} {hold}");
+        let ok = u8::from(Answer::OK);
+        let line = format_args!("restart {ok} - - {fields} {page} {hold}");
         self.trace.line(line)
     }
 

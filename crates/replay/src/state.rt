@@ -28,7 +28,7 @@ pub(crate) struct Replay<'a, P: Print> {
 }
 
 impl<'a, P: Print> Replay<'a, P> {
-    // Before the first line.
+    // Before the first line: sizes that SHAPE refuses, until the script says its own.
     pub(crate) fn new(rt: &'a P) -> Self {
         let setup = Setup {
             width: 4,
