@@ -39,14 +39,6 @@ pub returns-then-not-shape_fits-clause-runs : goal.returns-then-not-shape_fits-c
 returns-then-not-shape_fits-clause-runs c =
     list_refused (sym (shaped_is (goal.at.returns-then-not-shape_fits-clause-runs c).After-shape_fits) ∙ c.if-not-shape_fits.true) refl refl
 
-pub run_list-world-requires : goal.run_list-world-requires
-run_list-world-requires c = fits (goal.at.run_list-world-requires c).Else-not-shape_fits
-
-pub find-requires : goal.find-requires
-find-requires c =
-    let kept = c.run_list-world.auto in
-    rw (kept.volume, kept.page, kept.hold) (fits (goal.at.find-requires c).Else-not-shape_fits)
-
 pub returns-clause-runs : goal.returns-clause-runs
 returns-clause-runs c =
     let s = start (goal.at.returns-clause-runs c).After-shape_fits in

@@ -1,5 +1,4 @@
 -- `bench_run::run::run_list` meets its contract.
-use Rattle.std.proofs.Common.{length, length-drop, ap, arith}
 use borrow.Author.Rules.{part_to_end}
 use Rattle.engine_state.specs.Log.{setup_of}
 use Rattle.bench_step.specs.Step.{step_of}
@@ -14,12 +13,6 @@ loop-size-init c = upto_starts _ (c.begin-world.ensures _ _ _)
 -- the event at the front is whole
 found : (c : In-Some) → Whole c.loop-size.rest.now c.in-Some.size
 found c = size_found _ _ c.in-Some.ensures
-
-pub loop-size-smaller : goal.loop-size-smaller
-loop-size-smaller c =
-    let f = found (goal.at.loop-size-smaller c).In-Some in
-    let rest = c.loop-size.rest.now in
-    omega (arith, f.head, f.fits, ap length (part_to_end rest c.in-Some.size), length-drop c.in-Some.size rest)
 
 pub loop-size-preserved : goal.loop-size-preserved
 loop-size-preserved c =
