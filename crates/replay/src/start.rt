@@ -1,4 +1,6 @@
 // The first three lines: sizes, volume and restart.
+ghost use Rattle.replay.specs.Spelled.{mode_word, flag_word};
+
 use crate::power;
 use crate::state::{Replay, Stage};
 use crate::stop::Stop;
@@ -39,6 +41,8 @@ enum Mode {
 }
 
 impl Word for Mode {
+    ghost spelled = { mode_word };
+
     fn from_word(word: &[u8]) -> Option<Self> {
         match word {
             b"circular" => Some(Mode::Circular),
@@ -53,6 +57,8 @@ impl Word for Mode {
 struct Flag(bool);
 
 impl Word for Flag {
+    ghost spelled = { flag_word };
+
     fn from_word(word: &[u8]) -> Option<Self> {
         match word {
             b"0" => Some(Flag(false)),

@@ -24,12 +24,12 @@ pub struct Cases<'a, P: Print> {
 }
 
 impl<P: Print> Cases<'_, P> {
-    // A label and a value.
+    // A label and a value. No contract: it changes nothing, and of what is printed a clause can say nothing, since `Print` has none.
     pub fn line(&self, label: &str, value: impl Display + Drop) -> io::Result<()> {
         println!(self.rt; "{label}: {value}")
     }
 
-    // A label and the bytes of a slice, each as a number.
+    // A label and the bytes of a slice, each as a number. No contract, as of `line`.
     pub fn bytes(&self, label: &str, bytes: &[u8]) -> io::Result<()> {
         println!(self.rt; "{label}:{}", Row(bytes))
     }

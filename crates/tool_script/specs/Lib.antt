@@ -1,2 +1,3 @@
 -- What the contracts of scripts mean.
 pub mod Words
+pub mod Spelled

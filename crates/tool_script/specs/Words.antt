@@ -1,5 +1,5 @@
 -- The words of a line, between which one space stands each.
-use Rattle.std.specs.Prelude.{ℕ, List, [], ◌∷◌, cond, nat_eq, Option, None, Some, length, ◌≡◌, ◌<◌, ◌≤◌, ◌^◌}
+use Rattle.std.specs.Prelude.{ℕ, List, [], ◌∷◌, cond, nat_eq, Option, None, Some, length, ◌≡◌, ◌<◌, ◌≤◌, ◌^◌, ◌*◌, ◌⊎◌, codes}
 use Rattle.std.specs.Borrow.{Bor}
 use Rattle.std.specs.Str.Parse.{IsNumeral, digits_value}
 
@@ -25,3 +25,7 @@ IsTaken word old new = words_left old ≡ word ∷ words_left new
 -- 1 to 20 decimal digits, below 2^64
 abbrev pub IsNumber : List ℕ → Type 0
 IsNumber word = (length word ≤ 20) × IsNumeral 10 word × (digits_value 10 word < 2 ^ 64)
+
+-- how many bytes BYTES say: `-` is none, and else two digits stand for each
+abbrev pub IsBytes : List ℕ → ℕ → Type 0
+IsBytes word n = ((word ≡ codes "-") × (n ≡ 0)) ⊎ ((0 < n) × (length word ≡ 2 * n))

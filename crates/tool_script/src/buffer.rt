@@ -1,5 +1,6 @@
 // A buffer of fixed size.
-ghost use Rattle.std.specs.Prelude.{◌≡◌, ◌≤◌, ◌/◌, ◌↔◌, ◌++◌, length, take, replicate, IsSome, OnSome, IfNone};
+ghost use Rattle.std.specs.Prelude.{◌≡◌, ◌≤◌, ◌↔◌, ◌++◌, take, replicate, IsSome, OnSome, IfNone};
+ghost use Rattle.tool_script.specs.Words.{IsBytes};
 
 use crate::text;
 use std::fmt;
@@ -60,9 +61,10 @@ impl<const SIZE: usize> Buffer<SIZE> {
         Some(())
     }
 
-    // BYTES are in use, where the word is such and the buffer has room for them.
+    // BYTES are in use, where the word is such and the buffer has room for them; else as many bytes as before.
     pub fn read(&mut self, word: &[u8]) -> Option<()>
-        ensures { OnSome result (self.new.len ≡ length word.now / 2) }
+        ensures word { OnSome result (IsBytes word.now self.new.len) }
+        ensures kept { IfNone result (self.new.len ≡ self.old.len) }
     {
         self.len = text::bytes(word, &mut self.bytes)?;
         Some(())

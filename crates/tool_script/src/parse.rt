@@ -1,6 +1,10 @@
 // A line of the script, read as a call.
+ghost use Rattle.std.specs.Prelude.{◌≡◌, ◌↔◌, IsTrue};
+ghost use Rattle.tool_script.specs.Spelled.{name_word, driver_word, left_word, state_word, end_word};
+
 use crate::buffer::Buffer;
 use crate::fault::Fault;
+use crate::trace;
 use crate::words::{Word, Words};
 use bench_flash::event::{Call, Completion};
 use bench_flash::operation::Left;
@@ -29,32 +33,13 @@ pub enum Name {
     State,
 }
 
-impl Word for Name {
-    fn from_word(word: &[u8]) -> Option<Self> {
-        match word {
-            b"sizes" => Some(Name::Sizes),
-            b"volume" => Some(Name::Volume),
-            b"restart" => Some(Name::Restart),
-            b"append" => Some(Name::Append),
-            b"read" => Some(Name::Read),
-            b"seek" => Some(Name::Seek),
-            b"sync" => Some(Name::Sync),
-            b"erase" => Some(Name::Erase),
-            b"deferred" => Some(Name::Deferred),
-            b"write_complete" => Some(Name::WriteComplete),
-            b"erase_complete" => Some(Name::EraseComplete),
-            b"cut" => Some(Name::Cut),
-            b"get" => Some(Name::Get),
-            b"survey" => Some(Name::Survey),
-            b"state" => Some(Name::State),
-            _ => None,
-        }
-    }
-}
-
-impl fmt::Display for Name {
-    fn fmt<W: fmt::Write>(&self, f: &mut fmt::Formatter<W>) -> fmt::Result {
-        f.write_str(match self {
+impl Name {
+    // The word, as it is read and printed.
+    #[inline(always)]
+    fn word(self) -> &'static str
+        ensures { result.now ≡ name_word self }
+    {
+        match self {
             Name::Sizes => "sizes",
             Name::Volume => "volume",
             Name::Restart => "restart",
@@ -70,11 +55,55 @@ impl fmt::Display for Name {
             Name::Get => "get",
             Name::Survey => "survey",
             Name::State => "state",
-        })
+        }
+    }
+
+    #[inline(always)]
+    fn is(self, word: &[u8]) -> bool
+        ensures { IsTrue result ↔ (word.now ≡ name_word self) }
+    {
+        word == self.word().as_bytes()
+    }
+}
+
+impl Word for Name {
+    ghost spelled = { name_word };
+
+    fn from_word(word: &[u8]) -> Option<Self> {
+        match word {
+            _ if Name::Sizes.is(word) => Some(Name::Sizes),
+            _ if Name::Volume.is(word) => Some(Name::Volume),
+            _ if Name::Restart.is(word) => Some(Name::Restart),
+            _ if Name::Append.is(word) => Some(Name::Append),
+            _ if Name::Read.is(word) => Some(Name::Read),
+            _ if Name::Seek.is(word) => Some(Name::Seek),
+            _ if Name::Sync.is(word) => Some(Name::Sync),
+            _ if Name::Erase.is(word) => Some(Name::Erase),
+            _ if Name::Deferred.is(word) => Some(Name::Deferred),
+            _ if Name::WriteComplete.is(word) => Some(Name::WriteComplete),
+            _ if Name::EraseComplete.is(word) => Some(Name::EraseComplete),
+            _ if Name::Cut.is(word) => Some(Name::Cut),
+            _ if Name::Get.is(word) => Some(Name::Get),
+            _ if Name::Survey.is(word) => Some(Name::Survey),
+            _ if Name::State.is(word) => Some(Name::State),
+            _ => None,
+        }
+    }
+}
+
+impl fmt::Display for Name {
+    ghost use Rattle.std.specs.Prelude.{Some};
+
+    ghost output = { λ name. Some (name_word name) };
+
+    fn fmt<W: fmt::Write>(&self, f: &mut fmt::Formatter<W>) -> fmt::Result {
+        f.write_str(self.word())
     }
 }
 
 impl Word for Driver {
+    ghost spelled = { driver_word };
+
     fn from_word(word: &[u8]) -> Option<Self> {
         match word {
             b"ok" => Some(Driver::OK),
@@ -86,6 +115,8 @@ impl Word for Driver {
 }
 
 impl Word for Left {
+    ghost spelled = { left_word };
+
     fn from_word(word: &[u8]) -> Option<Self> {
         match word {
             b"old" => Some(Left::Old),
@@ -96,15 +127,24 @@ impl Word for Left {
     }
 }
 
+#[inline(always)]
+fn is_state(word: &[u8], state: State) -> bool
+    ensures { IsTrue result ↔ (word.now ≡ state_word state) }
+{
+    word == trace::state_name(state).as_bytes()
+}
+
 impl Word for State {
+    ghost spelled = { state_word };
+
     fn from_word(word: &[u8]) -> Option<Self> {
         match word {
-            b"idle" => Some(State::Idle),
-            b"read" => Some(State::Read),
-            b"seek" => Some(State::Seek),
-            b"append" => Some(State::Append),
-            b"sync" => Some(State::Sync),
-            b"erase" => Some(State::Erase),
+            _ if is_state(word, State::Idle) => Some(State::Idle),
+            _ if is_state(word, State::Read) => Some(State::Read),
+            _ if is_state(word, State::Seek) => Some(State::Seek),
+            _ if is_state(word, State::Append) => Some(State::Append),
+            _ if is_state(word, State::Sync) => Some(State::Sync),
+            _ if is_state(word, State::Erase) => Some(State::Erase),
             _ => None,
         }
     }
@@ -118,6 +158,8 @@ enum End {
 }
 
 impl Word for End {
+    ghost spelled = { end_word };
+
     fn from_word(word: &[u8]) -> Option<Self> {
         match word {
             b"ok" => Some(End::Well),

@@ -1,7 +1,7 @@
 // The script's text: parts of it, numbers and bytes.
-ghost use Rattle.std.specs.Prelude.{◌≡◌, ◌≤◌, ◌<◌, ◌+◌, ◌/◌, ◌++◌, ◌⊎◌, [], length, take, replicate, slice_range, IfSome, SomeIff};
+ghost use Rattle.std.specs.Prelude.{◌≡◌, ◌≤◌, ◌<◌, ◌+◌, ◌++◌, ◌⊎◌, [], length, take, replicate, slice_range, IfSome, SomeIff};
 ghost use Rattle.std.specs.Str.Parse.{digits_value};
-ghost use Rattle.tool_script.specs.Words.{IsNumber};
+ghost use Rattle.tool_script.specs.Words.{IsNumber, IsBytes};
 
 use std::str;
 
@@ -67,7 +67,7 @@ fn pair(high: u8, low: u8) -> Option<u8> {
 // BYTES go to the front of `out`; their count, unless the word is none or has too many.
 pub fn bytes(word: &[u8], out: &mut [u8]) -> Option<usize>
     ensures fits { IfSome result (λ n. n ≤ length out.new) }
-    ensures count { IfSome result (λ n. n ≡ length word.now / 2) }
+    ensures word { IfSome result (λ n. IsBytes word.now n) }
 {
     if matches!(word, b"-") {
         return Some(0);

@@ -1,4 +1,7 @@
 // The trace: its lines, and what they say as it is printed.
+ghost use Rattle.std.specs.Prelude.{◌≡◌};
+ghost use Rattle.tool_script.specs.Spelled.{state_word};
+
 use crate::buffer::Buffer;
 use engine_call::outcome::Outcome;
 use engine_restart::board_word::Word;
@@ -15,7 +18,9 @@ pub struct Trace<'a, P: Print> {
 }
 
 impl<'a, P: Print> Trace<'a, P> {
-    pub fn new(rt: &'a P) -> Self {
+    pub fn new(rt: &'a P) -> Self
+        ensures { (result.rt ≡ rt.entry) × (result.line.len ≡ 0) }
+    {
         Trace {
             rt,
             line: Buffer::new(),
@@ -111,7 +116,10 @@ impl fmt::Display for Requested {
 }
 
 // A state's name. No Display, since the type is of another crate.
-fn state_name(state: State) -> &'static str {
+#[inline(always)]
+pub(crate) fn state_name(state: State) -> &'static str
+    ensures { result.now ≡ state_word state }
+{
     match state {
         State::Idle => "idle",
         State::Read => "read",

@@ -1,16 +1,22 @@
 // A line, read word by word.
-ghost use Rattle.std.specs.Prelude.{◌≡◌, ◌==◌, ◌≤◌, ◌↔◌, ℕ, List, length, position, IsOk, IfOk};
+ghost use Rattle.std.specs.Prelude.{◌≡◌, ◌==◌, ◌≤◌, ◌↔◌, ℕ, List, length, position, IsOk, IfOk, IfErr, ◌≢◌, ◌∷◌};
 ghost use Rattle.std.specs.Iterator.{YieldsFirstRef, item_count};
 ghost use Rattle.std.specs.Str.Parse.{digits_value};
-ghost use Rattle.tool_script.specs.Words.{words_of, words_left, IsTaken, IsNumber};
+ghost use Rattle.tool_script.specs.Words.{words_of, words_left, IsTaken, IsNumber, IsBytes};
 
 use crate::buffer::Buffer;
 use crate::fault::Fault;
 use crate::text;
 
-// What one of a few words stands for.
+// What one of a few words stands for. `spelled` is the word of a value, and a word is read where it is one of these.
 pub trait Word: Sized {
-    fn from_word(word: &[u8]) -> Option<Self>;
+    ghost use Rattle.std.specs.Prelude.{ℕ, List, ◌≡◌, ◌≢◌, IfSome, IfNone};
+
+    ghost spelled: { Self → List ℕ };
+
+    fn from_word(word: &[u8]) -> Option<Self>
+        ensures is { IfSome result (λ value. word.now ≡ spelled value) }
+        ensures none { IfNone result ((value : Self) → word.now ≢ spelled value) };
 }
 
 // The words of a line that are left. One space stands between two.
@@ -59,16 +65,17 @@ impl<'a> Words<'a> {
 
     // BYTES, into a buffer.
     pub fn bytes<const SIZE: usize>(&mut self, buffer: &mut Buffer<SIZE>) -> Result<(), Fault>
-        ensures { IfOk result (λ done. (word : List ℕ) × IsTaken word self.old.rest self.new.rest) }
+        ensures taken { IfOk result (λ done. (word : List ℕ) × IsTaken word self.old.rest self.new.rest × IsBytes word buffer.new.len) }
+        ensures kept { IfErr result (λ fault. buffer.new.len ≡ buffer.old.len) }
     {
-        self.next()
-            .and_then(|word| buffer.read(word))
-            .ok_or(Fault::Bytes)
+        let word = self.next().ok_or(Fault::Bytes)?;
+        buffer.read(word).ok_or(Fault::Bytes)
     }
 
     // One of a few words.
     pub fn word<W: Word>(&mut self) -> Result<W, Fault>
-        ensures { IfOk result (λ given. (word : List ℕ) × IsTaken word self.old.rest self.new.rest) }
+        ensures taken { IfOk result (λ value. IsTaken (W.spelled value) self.old.rest self.new.rest) }
+        ensures none { IfErr result (λ fault. (value : W) → (others : List (List ℕ)) → words_left self.old.rest ≢ W.spelled value ∷ others) }
     {
         let word = self.next().ok_or(Fault::Word)?;
         W::from_word(word).ok_or(Fault::Word)

@@ -1,0 +1,2 @@
+-- What the contracts of the replay mean.
+pub mod Spelled
