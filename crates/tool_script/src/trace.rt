@@ -1,5 +1,5 @@
 // The trace: its lines, and what they say as it is printed.
-ghost use Rattle.std.specs.Prelude.{◌≡◌};
+ghost use Rattle.std.specs.Prelude.{◌≡◌, ◌++◌, ◌∷◌, [], ℕ, List, Some, take, IfOk};
 ghost use Rattle.tool_script.specs.Spelled.{state_word};
 
 use crate::buffer::Buffer;
@@ -28,7 +28,10 @@ impl<'a, P: Print> Trace<'a, P> {
     }
 
     // A line. `println!` would write it in pieces of 1,024 bytes, which takes twice as long where pages have 4,096.
-    pub fn line<D: Display + Drop>(&mut self, line: D) -> io::Result<()> {
+    pub fn line<D: Display + Drop>(&mut self, line: D) -> io::Result<()>
+        ensures { IfOk result (λ done. (text : List ℕ) → D.output line ≡ Some text
+            → take self.new.line.len self.new.line.bytes ≡ text ++ 10 ∷ []) }
+    {
         self.line.clear();
         writeln!(self.line, "{line}")?;
         self.rt.write_all(self.line.as_slice())
