@@ -43,8 +43,8 @@ completion_of (d.Erase good word) = erase_ended good (word_of word)
 abbrev pub restart_of : code-restart.Restart → List ℕ → Restart
 restart_of r bytes = record {
   left = left_of r.left;
-  read_client = r.read_client;
-  append_client = r.append_client;
+  read_client = r.clients.read;
+  append_client = r.clients.append;
   page = take r.size bytes;
   hold = drop r.size bytes;
 }

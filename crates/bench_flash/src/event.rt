@@ -6,6 +6,7 @@ ghost use Rattle.bench_flash.specs.Event.{call_of, completion_of};
 
 use crate::operation::Left;
 use engine_call::outcome::Driver;
+use engine_state::state::Clients;
 use page::id::EntryID;
 
 // An append and a read have their length.
@@ -62,8 +63,7 @@ impl Completion {
 #[derive(Clone, Copy)]
 pub struct Restart {
     pub left: Left,
-    pub read_client: bool,
-    pub append_client: bool,
+    pub clients: Clients,
     pub size: usize,
 }
 

@@ -8,8 +8,10 @@ ghost use Rattle.bench_run.specs.Encoded.{good_from, read_client_from, append_cl
 use bench_flash::event::{Call, Completion, Event, Restart};
 use bench_flash::operation::Left;
 use engine_call::outcome::Driver;
+use engine_state::state::Clients;
 use page::id::EntryID;
 use page::word;
+use page::word::WordWidth;
 
 // The bytes of an event's head.
 pub const HEAD_SIZE: usize = 14;
@@ -50,7 +52,6 @@ impl From<Options> for Left {
     }
 }
 
-// A name for each flag, as its definition has one.
 impl Options {
     fn is_good(self) -> bool
         ensures { result ≡ good_from self.0 }
@@ -58,16 +59,13 @@ impl Options {
         self.0 / 4 % 2 == 1
     }
 
-    fn read_client(self) -> bool
-        ensures { result ≡ read_client_from self.0 }
+    fn clients(self) -> Clients
+        ensures { (result.read ≡ read_client_from self.0) × (result.append ≡ append_client_from self.0) }
     {
-        self.0 / 32 % 2 == 1
-    }
-
-    fn append_client(self) -> bool
-        ensures { result ≡ append_client_from self.0 }
-    {
-        self.0 / 64 % 2 == 1
+        Clients {
+            read: self.0 / 32 % 2 == 1,
+            append: self.0 / 64 % 2 == 1,
+        }
     }
 }
 
@@ -79,7 +77,7 @@ pub fn event(list: &[u8]) -> Event
         event_of result bytes room ≡ event_from (get_or s 0 0) (get_or s 1 0) (word_at 8 s 2) bytes room }
 {
     let options = Options(list[1]);
-    let number = word::read_word(8, list, 2);
+    let number = word::read_word(WordWidth::EIGHT, list, 2);
     let word = Driver::from(options);
     let left = Left::from(options);
     let good = options.is_good();
@@ -95,8 +93,7 @@ pub fn event(list: &[u8]) -> Event
         8 => Event::Cut(left),
         _ => Event::Restart(Restart {
             left,
-            read_client: options.read_client(),
-            append_client: options.append_client(),
+            clients: options.clients(),
             size: number,
         }),
     }

@@ -10,6 +10,7 @@ use engine_state::answer::Answer;
 use engine_state::fits::LentLengths;
 use engine_state::state::Log;
 use page::word;
+use page::word::WordWidth;
 
 // A read's entry: its length, and the log after it.
 #[derive(Clone, Copy)]
@@ -55,7 +56,7 @@ fn read_next<'a>(
         return Err(Stop::Answered(given.answer));
     }
     let size = given.log.length;
-    word::write_word(width, out, 0, size);
+    word::write_word(WordWidth { bytes: width }, out, 0, size);
     let after = handle_deferred_call(given.log, LentLengths::of(volume, page, hold));
     Ok(Entry {
         log: after.log,

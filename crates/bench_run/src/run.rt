@@ -17,7 +17,7 @@ use bench_step::world::{Bench, World};
 use engine_state::answer::Answer;
 use engine_state::fits;
 use engine_state::fits::LentLengths;
-use engine_state::state::Setup;
+use engine_state::state::{Clients, Setup};
 use page::id::EntryID;
 
 // What a further restart found: O and A, and the entries that were read.
@@ -75,8 +75,10 @@ fn find(
     let world = off.world;
     let done = Bench { world, ..bench }.restart(
         off.told.ended,
-        true,
-        append_client,
+        Clients {
+            read: true,
+            append: append_client,
+        },
         volume,
         page,
         hold,

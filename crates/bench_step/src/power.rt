@@ -17,6 +17,7 @@ use crate::world::{Bench, Ended, Step, World};
 use bench_flash::event::Restart;
 use bench_flash::operation::{Left, Operation, Slot};
 use engine_state::answer::Answer;
+use engine_state::state::Clients;
 
 impl World {
     // A restart that is refused leaves the power off.
@@ -81,21 +82,19 @@ impl Bench {
     pub fn restart(
         self,
         ended: Option<Ended>,
-        read_client: bool,
-        append_client: bool,
+        clients: Clients,
         volume: &[u8],
         page: &mut [u8],
         hold: &[u8],
     ) -> Step
         ensures { (left : flash.Left) → let g = setup_of self.setup in let x = world_of self.world page.old hold.now volume.now in
             step_of g result page.new x.hold x.volume ≡ restarts_after g (record { world = x; told = bench.quiet (ended_of ended) })
-            (in_place left read_client append_client x) }
+            (in_place left clients.read clients.append x) }
     {
         let setup = self.setup;
         match engine_restart::restart::restart(
             setup,
-            read_client,
-            append_client,
+            clients,
             volume,
             page,
             hold,
@@ -134,8 +133,7 @@ impl Bench {
         let world = off.world;
         Bench { world, ..self }.restart(
             ended,
-            restart.read_client,
-            restart.append_client,
+            restart.clients,
             volume,
             page,
             hold,

@@ -14,8 +14,9 @@ ghost use Rattle.bench_step.specs.Step.{world_of, ended_of, answer_of, step_of};
 
 use bench_flash::event::Completion;
 use bench_flash::operation::{Left, Operation};
+use engine_restart::restart;
 use engine_state::answer::{Answer, Report, Request};
-use engine_state::state::{Log, Setup, State};
+use engine_state::state::{Clients, Log, Setup, State};
 use page::id::EntryID;
 
 // The power and the log are two fields, as in the definition: with the power off the log is any.
@@ -65,16 +66,7 @@ impl World {
     {
         World {
             power: false,
-            log: Log {
-                setup,
-                read_client: false,
-                append_client: false,
-                state: State::Idle,
-                oldest_entry_id: EntryID(0),
-                read_entry_id: EntryID(0),
-                append_entry_id: EntryID(0),
-                length: 0,
-            },
+            log: restart::at_rest(setup, Clients::NONE, EntryID(0), EntryID(0)),
             operation: None,
         }
     }

@@ -1,31 +1,24 @@
 // The calls, on a log and on what they are lent.
 use engine_call::outcome::{Driver, Outcome};
+use engine_restart::restart;
 use engine_state::fits::LentLengths;
-use engine_state::state::{Geometry, Log, Setup, State};
+use engine_state::state::{Clients, Geometry, Log, Setup};
 use page::id::EntryID;
 use tool_print::board::{Board, PAGES};
 
 // A circular log at rest that starts with page 0, with this A.
 pub(crate) fn from_start(board: Board, append: usize) -> Log {
-    let first = EntryID(board.words(1));
-    Log {
-        setup: Setup {
-            width: board.width,
-            geometry: Geometry {
-                page_size: board.page_size(),
-                page_count: PAGES,
-                first_page: 100,
-            },
-            circular: true,
+    let setup = Setup {
+        width: board.width.bytes,
+        geometry: Geometry {
+            page_size: board.page_size(),
+            page_count: PAGES,
+            first_page: 100,
         },
-        read_client: true,
-        append_client: true,
-        state: State::Idle,
-        oldest_entry_id: first,
-        read_entry_id: first,
-        append_entry_id: EntryID(append),
-        length: 0,
-    }
+        circular: true,
+    };
+    let first = EntryID(board.words(1));
+    restart::at_rest(setup, Clients::BOTH, first, EntryID(append))
 }
 
 // What the calls are lent: an erased volume, and a page buffer and a hold buffer of zeros, of these lengths up to 65.

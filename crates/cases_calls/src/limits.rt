@@ -145,11 +145,17 @@ fn clients(on: &Cases<impl Print>) -> io::Result<()> {
     let a = on.board.count(1, 2, 3);
     let log = from_start(on.board, a);
     let no_append = Log {
-        append_client: false,
+        clients: Clients {
+            append: false,
+            ..log.clients
+        },
         ..log
     };
     let no_read = Log {
-        read_client: false,
+        clients: Clients {
+            read: false,
+            ..log.clients
+        },
         ..log
     };
     append(on, "append, no append client", no_append)?;

@@ -14,8 +14,8 @@ struct Look<'a> {
     volume: &'a [u8],
     buffer: &'a [u8],
     append: usize,
-    ghost volume_fits: { length volume.now ≡ 32 * board.width },
-    ghost buffer_fits: { length buffer.now ≡ 8 * board.width },
+    ghost volume_fits: { length volume.now ≡ 32 * board.width.bytes },
+    ghost buffer_fits: { length buffer.now ≡ 8 * board.width.bytes },
     ghost appended: { 0 < append },
 }
 
@@ -35,7 +35,7 @@ impl<'a> Look<'a> {
 
     // The pages that are lent.
     fn pages(self) -> Pages<'a>
-        ensures { (result.width ≡ self.entry.board.width) × (result.page_size ≡ 8 * self.entry.board.width) }
+        ensures { (result.width ≡ self.entry.board.width) × (result.page_size ≡ 8 * self.entry.board.width.bytes) }
     {
         Pages {
             width: self.board.width,

@@ -22,7 +22,7 @@ fn id(on: &Cases<impl Print>, id: usize) -> io::Result<()>
 
 // A page, by its own first ID, and the one that it overwrites.
 fn overwritten(on: &Cases<impl Print>, first: usize) -> io::Result<()>
-    requires { first + 8 * on.now.board.width ≤ ceiling on.now.board.width }
+    requires { first + 8 * on.now.board.width.bytes ≤ ceiling on.now.board.width.bytes }
 {
     let board = on.board;
     let page_size = board.page_size();

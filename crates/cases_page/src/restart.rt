@@ -2,7 +2,7 @@
 use crate::volume;
 use engine_restart::restart::restart;
 use engine_state::answer::Answer;
-use engine_state::state::{Geometry, Log, Setup};
+use engine_state::state::{Clients, Geometry, Log, Setup};
 use std::io;
 use tool_print::board::{Board, PAGES};
 use tool_print::print::Cases;
@@ -21,24 +21,17 @@ pub(crate) fn restarted(
     board: Board,
     geometry: Geometry,
     circular: bool,
-    clients: bool,
+    clients: Clients,
     volume: &[u8],
     page: &mut [u8; 64],
 ) -> Result<Log, Answer> {
     let p = board.page_size();
     let setup = Setup {
-        width: board.width,
+        width: board.width.bytes,
         geometry,
         circular,
     };
-    restart(
-        setup,
-        clients,
-        clients,
-        volume,
-        &mut page[..p],
-        &[2; 64][..p],
-    )
+    restart(setup, clients, volume, &mut page[..p], &[2; 64][..p])
 }
 
 // A restart with both clients set: its answer, O, R and A, and the page buffer.
@@ -50,7 +43,14 @@ fn sized(
     volume: &[u8],
 ) -> io::Result<()> {
     let mut page = [1; 64];
-    match restarted(on.board, geometry, circular, true, volume, &mut page) {
+    match restarted(
+        on.board,
+        geometry,
+        circular,
+        Clients::BOTH,
+        volume,
+        &mut page,
+    ) {
         Ok(log) => {
             let oldest = log.oldest_entry_id.0;
             let read = log.read_entry_id.0;

@@ -7,7 +7,7 @@ use engine_restart::board_word::Word;
 use engine_restart::survey;
 use engine_state::answer::Answer;
 use engine_state::get::get_size;
-use engine_state::state::Geometry;
+use engine_state::state::{Clients, Geometry};
 use std::io;
 use tool_print::board::{Board, PAGES};
 use tool_print::print::Cases;
@@ -24,7 +24,7 @@ fn survey(
     requires { words ≤ 4 }
 {
     let geometry = of_pages(on.board, page_count);
-    if on.board.width == 8 {
+    if on.board.width.bytes == 8 {
         return into(on, label, geometry, volume, &mut [7u64; 4][..words]);
     }
     into(on, label, geometry, volume, &mut [7u32; 4][..words])
@@ -59,7 +59,7 @@ fn headers(on: &Cases<impl Print>, label: &str, ids: [usize; 4]) -> io::Result<(
 fn capacity(board: Board) -> Result<usize, Answer> {
     let volume = &[255; 256][..board.volume_size()];
     let four = of_pages(board, PAGES);
-    get_size(restarted(board, four, true, false, volume, &mut [0; 64])?)
+    get_size(restarted(board, four, true, Clients::NONE, volume, &mut [0; 64])?)
 }
 
 // Surveys of four pages, of three, and of too few bytes, and the capacity.

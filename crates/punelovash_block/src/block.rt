@@ -16,9 +16,10 @@ use engine_restart::board_word::Word;
 use engine_state::answer::Answer;
 use engine_state::fits;
 use engine_state::fits::LentLengths;
-use engine_state::state::{Geometry, Log, Setup, State};
+use engine_state::state::{Clients, Geometry, Log, Setup, State};
 use page::id::EntryID;
 use page::word;
+use page::word::WordWidth;
 
 // The places before the IDs, of which the oldest is the first.
 const PAGE_SIZE_AT: usize = 0;
@@ -77,7 +78,7 @@ fn id_at<W: Word>(block: &[u8], at: usize) -> EntryID
     requires { at + W.WIDTH ≤ length block.now }
     ensures { result.0 ≡ word_at W.WIDTH block.now at }
 {
-    EntryID(word::read_word(W::WIDTH, block, at))
+    EntryID(word::read_word(WordWidth { bytes: W::WIDTH }, block, at))
 }
 
 // An ID goes to its place.
@@ -85,7 +86,7 @@ fn put_id<W: Word>(block: &mut [u8], at: usize, id: EntryID)
     requires { at + W.WIDTH ≤ length block.old }
     ensures { block.new ≡ overwrite block.old at (word_bytes W.WIDTH id.0) }
 {
-    word::write_word(W::WIDTH, block, at, id.0);
+    word::write_word(WordWidth { bytes: W::WIDTH }, block, at, id.0);
 }
 
 // The sizes and the mode in a block.
@@ -115,8 +116,10 @@ fn log_at<W: Word>(state: State, block: &[u8]) -> Log
     let flags = block[FLAGS_AT];
     Log {
         setup: setup_at::<W>(block),
-        read_client: flags / 2 % 2 == 1,
-        append_client: 4 <= flags,
+        clients: Clients {
+            read: flags / 2 % 2 == 1,
+            append: 4 <= flags,
+        },
         state,
         oldest_entry_id: id_at::<W>(block, OLDEST_AT),
         read_entry_id: id_at::<W>(block, OLDEST_AT + width),
@@ -211,15 +214,15 @@ pub(crate) fn save<W: Word>(given: &Outcome, block: &mut [u8]) -> u32
     put_id::<W>(block, OLDEST_AT, log.oldest_entry_id);
     put_id::<W>(block, OLDEST_AT + width, log.read_entry_id);
     put_id::<W>(block, OLDEST_AT + 2 * width, log.append_entry_id);
-    word::write_word(4, block, KEPT_AT + ids, log.length);
+    word::write_word(WordWidth::FOUR, block, KEPT_AT + ids, log.length);
     let report = ReportNumbers::from(given);
     put_byte(block, REPORT_AT + ids, report.kind);
     put_byte(block, LOST_AT + ids, u8::from(report.lost));
     put_byte(block, RESULT_AT + ids, u8::from(report.result));
-    word::write_word(4, block, LENGTH_AT + ids, report.length);
+    word::write_word(WordWidth::FOUR, block, LENGTH_AT + ids, report.length);
     let request = RequestNumbers::from(given);
     put_byte(block, REQUEST_AT + ids, request.kind);
-    word::write_word(4, block, PAGE_AT + ids, request.page);
+    word::write_word(WordWidth::FOUR, block, PAGE_AT + ids, request.page);
     numbers::answer_number(given.answer)
 }
 
@@ -254,8 +257,8 @@ pub(crate) fn save_setup(log: &Log, block: &mut [u8])
     ensures { let l = log_of log.now in block.new ≡ sized l.setup l.read_client l.append_client block.old }
 {
     let geometry = log.setup.geometry;
-    word::write_word(4, block, PAGE_SIZE_AT, geometry.page_size);
-    word::write_word(4, block, PAGE_COUNT_AT, geometry.page_count);
-    word::write_word(4, block, FIRST_PAGE_AT, geometry.first_page);
+    word::write_word(WordWidth::FOUR, block, PAGE_SIZE_AT, geometry.page_size);
+    word::write_word(WordWidth::FOUR, block, PAGE_COUNT_AT, geometry.page_count);
+    word::write_word(WordWidth::FOUR, block, FIRST_PAGE_AT, geometry.first_page);
     put_byte(block, FLAGS_AT, numbers::flags(log));
 }

@@ -20,7 +20,7 @@ pub(crate) fn answer_number(answer: Answer) -> u32
 pub(crate) fn flags(log: &Log) -> u8
     ensures { let l = log_of log.now in result ≡ flags l.setup.circular l.read_client l.append_client }
 {
-    u8::from(log.setup.circular) + 2 * u8::from(log.read_client) + 4 * u8::from(log.append_client)
+    u8::from(log.setup.circular) + 2 * u8::from(log.clients.read) + 4 * u8::from(log.clients.append)
 }
 
 // A report in the numbers that C reads in a block: its kind, whether entries were lost, its result and its length.

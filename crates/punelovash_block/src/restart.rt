@@ -9,7 +9,7 @@ use engine_call::outcome;
 use engine_restart::board_word::Word;
 use engine_restart::restart;
 use engine_state::answer::Answer;
-use engine_state::state::{Geometry, Setup};
+use engine_state::state::{Clients, Geometry, Setup};
 
 // Restarts the log on a volume. Flags are 0 or not.
 pub fn restart<W: Word>(
@@ -40,9 +40,11 @@ pub fn restart<W: Word>(
         },
         circular: circular != 0,
     };
-    let reads = read_client != 0;
-    let appends = append_client != 0;
-    match restart::restart(setup, reads, appends, volume, page, hold) {
+    let clients = Clients {
+        read: read_client != 0,
+        append: append_client != 0,
+    };
+    match restart::restart(setup, clients, volume, page, hold) {
         Ok(log) => {
             block::save_setup(&log, block);
             block::save::<W>(&outcome::still(log, Answer::OK), block)

@@ -7,7 +7,7 @@ use crate::stop::Stop;
 use bench_step::world::{Bench, World};
 use engine_state::answer::Answer;
 use engine_state::fits;
-use engine_state::state::{Geometry, Setup};
+use engine_state::state::{Clients, Geometry, Setup};
 use std::io;
 use tool_script::buffer::Buffer;
 use tool_script::fault::Fault;
@@ -157,11 +157,10 @@ impl<P: Print> Replay<'_, P> {
     }
 
     // The log restarts with the buffers that are lent.
-    fn restarted(&mut self, read: bool, append: bool) -> io::Result<()> {
+    fn restarted(&mut self, clients: Clients) -> io::Result<()> {
         let step = self.bench.restart(
             None,
-            read,
-            append,
+            clients,
             self.volume.as_slice(),
             self.page.as_mut_slice(),
             self.hold.as_slice(),
@@ -183,7 +182,7 @@ impl<P: Print> Replay<'_, P> {
         self.cut_off(left);
         lend(page, &mut self.page)?;
         lend(hold, &mut self.hold)?;
-        self.restarted(read, append)?;
+        self.restarted(Clients { read, append })?;
         Ok(())
     }
 }

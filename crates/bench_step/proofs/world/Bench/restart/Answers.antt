@@ -13,4 +13,4 @@ returns-in-Err c left =
     let a = c.args in
     let g = setup_of a.self.setup in
     let is = sym c.in-Err.ensures in
-    rw (is, refused_keeps g a.read_client a.append_client (lend a.volume.now a.page.now a.hold.now) is) (c.refused.ensures g _ _ _)
+    rw (is, refused_keeps g a.clients.read a.clients.append (lend a.volume.now a.page.now a.hold.now) is) (c.refused.ensures g _ _ _)

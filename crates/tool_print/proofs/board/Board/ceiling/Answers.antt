@@ -4,4 +4,4 @@ use Rattle.page.proofs.Kit.{wide}
 use Rattle.tool_print.proofs.board.Board.ceiling.Goals as goal
 
 pub returns-clause-least : goal.returns-clause-least
-returns-clause-least c = omega (arith, c.ceiling.ensures, wide c.args.self.fits)
+returns-clause-least c = omega (arith, c.ceiling.ensures, wide c.args.self.width.fits)

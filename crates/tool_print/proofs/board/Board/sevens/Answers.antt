@@ -8,4 +8,4 @@ use Rattle.tool_print.proofs.board.Board.sevens.Goals as goal
 pub returns-then-self-n-clause-fits : goal.returns-then-self-n-clause-fits
 returns-then-self-n-clause-fits c h _ =
     let a = c.args in
-    (refl, c.write_entry.ensures ∙ ap (λ b. overwrite a.page.now a.at (encode a.self.width b)) (take-replicate a.n 64 7 h))
+    (refl, c.write_entry.ensures ∙ ap (λ b. overwrite a.page.now a.at (encode a.self.width.bytes b)) (take-replicate a.n 64 7 h))
