@@ -92,13 +92,7 @@ impl Bench {
             (in_place left clients.read clients.append x) }
     {
         let setup = self.setup;
-        match engine_restart::restart::restart(
-            setup,
-            clients,
-            volume,
-            page,
-            hold,
-        ) {
+        match engine_restart::restart::restart(setup, clients, volume, page, hold) {
             Ok(log) => World {
                 power: true,
                 log,
@@ -131,12 +125,6 @@ impl Bench {
         page.copy_from_slice(front);
         hold.copy_from_slice(rest);
         let world = off.world;
-        Bench { world, ..self }.restart(
-            ended,
-            restart.clients,
-            volume,
-            page,
-            hold,
-        )
+        Bench { world, ..self }.restart(ended, restart.clients, volume, page, hold)
     }
 }
