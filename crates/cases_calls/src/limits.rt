@@ -2,7 +2,7 @@
 use crate::lent::{Lent, from_start};
 use crate::outcome::line;
 use engine_call::outcome::Driver::OK;
-use engine_state::state::{Geometry, Log, Setup, State};
+use engine_state::state::{Clients, Geometry, Log, Setup, State};
 use page::id::EntryID;
 use std::io;
 use tool_print::print::Cases;
