@@ -8,10 +8,10 @@ use engine_restart::survey;
 use engine_state::answer::Answer;
 use engine_state::get::get_size;
 use engine_state::state::{Clients, Geometry};
+use std::fmt::Display;
 use std::io;
 use tool_print::board::{Board, PAGES};
-use tool_print::print::Cases;
-use tool_script::trace::IDs;
+use tool_print::print::{Cases, Row};
 
 // A survey into a slice of so many words: its answer, the count, and the slice.
 fn survey(
@@ -30,7 +30,7 @@ fn survey(
     into(on, label, geometry, volume, &mut [7u32; 4][..words])
 }
 
-fn into<W: Word>(
+fn into<W: Word + Display>(
     on: &Cases<impl Print>,
     label: &str,
     geometry: Geometry,
@@ -40,9 +40,9 @@ fn into<W: Word>(
     match survey::survey(geometry, volume, ids) {
         Ok(n) => on.line(
             label,
-            format_args!("{} {n}{}", u8::from(Answer::OK), IDs(ids)),
+            format_args!("{} {n}{}", u8::from(Answer::OK), Row(ids)),
         ),
-        Err(answer) => on.line(label, format_args!("{}{}", u8::from(answer), IDs(ids))),
+        Err(answer) => on.line(label, format_args!("{}{}", u8::from(answer), Row(ids))),
     }
 }
 

@@ -7,22 +7,24 @@ use engine_restart::survey;
 use engine_state::answer::Answer;
 use engine_state::get;
 use engine_state::state::Log;
+use std::fmt::Display;
 use std::io;
+use tool_print::print::Row;
 use tool_script::fault::Fault;
 use tool_script::parse::{Name, Other, Put};
 use tool_script::text;
-use tool_script::trace::{Bytes, IDs};
+use tool_script::trace::Bytes;
 
 impl<P: Print> Replay<'_, P> {
     // A survey's answer, its count and all words of the slice.
-    fn survey_into<W: Word>(&mut self, ids: &mut [W]) -> io::Result<()> {
+    fn survey_into<W: Word + Display>(&mut self, ids: &mut [W]) -> io::Result<()> {
         let geometry = self.bench.setup.geometry;
         let (answer, count) = match survey::survey(geometry, self.volume.as_slice(), ids) {
             Ok(count) => (Answer::OK, count),
             Err(refusal) => (refusal, 0),
         };
         let answer = u8::from(answer);
-        let line = format_args!("survey {answer} {count}{}", IDs(ids));
+        let line = format_args!("survey {answer} {count}{}", Row(ids));
         self.trace.line(line)
     }
 

@@ -1,13 +1,17 @@
 // Lines of output: a label, then what the case gave. A write that fails ends the line with its error.
+ghost use Rattle.tool_print.specs.Row.{row_text};
+
 use crate::board::Board;
 use std::fmt::Display;
 use std::{fmt, io};
 
 // Numbers, a space before each.
-#[derive(Drop)]
+#[derive_where(Clone, Copy)]
 pub struct Row<'a, T>(pub &'a [T]);
 
 impl<T: Display> Display for Row<'_, T> {
+    ghost output = { λ row. row_text T.output row.0.now };
+
     fn fmt<W: fmt::Write>(&self, f: &mut fmt::Formatter<W>) -> fmt::Result {
         for n in self.0 {
             write!(f, " {n}")?;

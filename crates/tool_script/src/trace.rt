@@ -4,7 +4,6 @@ ghost use Rattle.tool_script.specs.Spelled.{state_word};
 
 use crate::buffer::Buffer;
 use engine_call::outcome::Outcome;
-use engine_restart::board_word::Word;
 use engine_state::answer::{Report, Request};
 use engine_state::state::{Log, State};
 use std::fmt::{Display, Write};
@@ -66,19 +65,6 @@ impl fmt::Display for Bytes<'_> {
             put_digits(bytes, &mut digits);
             let end = 2 * bytes.len().min(BLOCK);
             f.write_str(str::from_utf8(&digits[..end]).map_err(|_| fmt::Error)?)?;
-        }
-        Ok(())
-    }
-}
-
-// The words of a survey, each after a space.
-#[derive(Clone, Copy)]
-pub struct IDs<'a, B>(pub &'a [B]);
-
-impl<B: Word> fmt::Display for IDs<'_, B> {
-    fn fmt<W: fmt::Write>(&self, f: &mut fmt::Formatter<W>) -> fmt::Result {
-        for word in self.0 {
-            write!(f, " {}", word.id())?;
         }
         Ok(())
     }

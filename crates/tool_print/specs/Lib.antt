@@ -1,0 +1,2 @@
+-- What the contracts of lines of output mean.
+pub mod Row
