@@ -1,5 +1,7 @@
 -- The words of a line, between which one space stands each.
-use Rattle.std.specs.Prelude.{ℕ, List, [], ◌∷◌, cond, nat_eq, Option, None, Some, length, ◌≡◌, ◌<◌, ◌≤◌, ◌^◌, ◌*◌, ◌⊎◌, codes}
+use Rattle.std.specs.Prelude.{ℕ, List, [], ◌∷◌, false, cond, nat_eq, Option, None, Some, length, ◌≡◌, ◌<◌, ◌≤◌, ◌^◌, ◌*◌, ◌/◌, ◌%◌, ◌⊎◌, codes}
+use Rattle.std.specs.Fmt.{digit_glyph}
+use Rattle.std.specs.List.{flat_map}
 use Rattle.std.specs.Borrow.{Bor}
 use Rattle.std.specs.Str.Parse.{IsNumeral, digits_value}
 
@@ -29,3 +31,16 @@ IsNumber word = (length word ≤ 20) × IsNumeral 10 word × (digits_value 10 wo
 -- how many bytes BYTES say: `-` is none, and else two digits stand for each
 abbrev pub IsBytes : List ℕ → ℕ → Type 0
 IsBytes word n = ((word ≡ codes "-") × (n ≡ 0)) ⊎ ((0 < n) × (length word ≡ 2 * n))
+
+-- a lower-case hexadecimal digit
+abbrev pub hex_digit : ℕ → ℕ
+hex_digit d = digit_glyph false d
+
+-- the two digits of a byte
+abbrev pub hex_digits : ℕ → List ℕ
+hex_digits byte = hex_digit (byte / 16) ∷ hex_digit (byte % 16) ∷ []
+
+-- BYTES: two lower-case hexadecimal digits for each byte, or `-` for no bytes
+abbrev pub bytes_word : List ℕ → List ℕ
+bytes_word [] = codes "-"
+bytes_word (b ∷ bs) = flat_map hex_digits (b ∷ bs)

@@ -3,6 +3,7 @@ ghost use Rattle.std.specs.Prelude.{◌≡◌, ◌≤◌, ◌↔◌, ◌++◌, t
 ghost use Rattle.tool_script.specs.Words.{IsBytes};
 
 use crate::text;
+use page::bytes;
 use std::fmt;
 
 // An array with how much of its front is in use: a Vec would allocate.
@@ -79,7 +80,7 @@ impl<const SIZE: usize> fmt::Write for Buffer<SIZE> {
         if SIZE - self.len < s.len() {
             return Err(fmt::Error);
         }
-        text::put(&mut self.bytes, self.len, s.as_bytes());
+        bytes::copy_in(&mut self.bytes, self.len, s.as_bytes());
         self.len += s.len();
         Ok(())
     }

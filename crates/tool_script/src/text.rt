@@ -1,7 +1,7 @@
 // The script's text: parts of it, numbers and bytes.
-ghost use Rattle.std.specs.Prelude.{◌≡◌, ◌≤◌, ◌<◌, ◌+◌, ◌++◌, ◌⊎◌, [], length, take, replicate, slice_range, IfSome, SomeIff};
+ghost use Rattle.std.specs.Prelude.{◌≡◌, ◌≢◌, ◌≤◌, ◌<◌, ◌⊎◌, ℕ, [], ◌∷◌, length, take, replicate, slice_range, IfSome, IfNone, SomeIff};
 ghost use Rattle.std.specs.Str.Parse.{digits_value};
-ghost use Rattle.tool_script.specs.Words.{IsNumber, IsBytes};
+ghost use Rattle.tool_script.specs.Words.{IsNumber, IsBytes, hex_digit, hex_digits, bytes_word};
 
 use std::str;
 
@@ -29,14 +29,6 @@ pub(crate) fn fill(buffer: &mut [u8], byte: u8, len: usize)
     buffer[..len].fill(byte);
 }
 
-// A text goes into a buffer from an offset on.
-pub(crate) fn put(buffer: &mut [u8], at: usize, text: &[u8])
-    requires { at + length text.now ≤ length buffer.old }
-    ensures { take (at + length text.now) buffer.new ≡ take at buffer.old ++ text.now }
-{
-    buffer[at..at + text.len()].copy_from_slice(text);
-}
-
 // 1 to 20 decimal digits, below 2^64.
 pub fn number(word: &[u8]) -> Option<usize>
     ensures { SomeIff result (IsNumber word.now) (digits_value 10 word.now) }
@@ -50,7 +42,8 @@ pub fn number(word: &[u8]) -> Option<usize>
 
 // What a lower-case hexadecimal digit stands for.
 fn digit(byte: u8) -> Option<u8>
-    ensures { IfSome result (λ d. d < 16) }
+    ensures is { IfSome result (λ d. (d < 16) × (byte ≡ hex_digit d)) }
+    ensures none { IfNone result ((d : ℕ) → d < 16 → byte ≢ hex_digit d) }
 {
     match byte {
         b'0'..=b'9' => Some(byte - b'0'),
@@ -60,7 +53,10 @@ fn digit(byte: u8) -> Option<u8>
 }
 
 // Two digits as a byte.
-fn pair(high: u8, low: u8) -> Option<u8> {
+fn pair(high: u8, low: u8) -> Option<u8>
+    ensures is { IfSome result (λ byte. high ∷ low ∷ [] ≡ hex_digits byte) }
+    ensures none { IfNone result ((byte : ℕ) → byte < 256 → high ∷ low ∷ [] ≢ hex_digits byte) }
+{
     Some(digit(high)? * 16 + digit(low)?)
 }
 
@@ -68,6 +64,7 @@ fn pair(high: u8, low: u8) -> Option<u8> {
 pub fn bytes(word: &[u8], out: &mut [u8]) -> Option<usize>
     ensures fits { IfSome result (λ n. n ≤ length out.new) }
     ensures word { IfSome result (λ n. IsBytes word.now n) }
+    ensures values { IfSome result (λ n. word.now ≡ bytes_word (take n out.new)) }
 {
     if matches!(word, b"-") {
         return Some(0);
@@ -76,8 +73,11 @@ pub fn bytes(word: &[u8], out: &mut [u8]) -> Option<usize>
         return None;
     }
     let size = word.len() / 2;
-    for (byte, digits) in out.get_mut(..size)?.iter_mut().zip(word.chunks_exact(2)) {
-        *byte = pair(digits[0], digits[1])?;
+    if out.len() < size {
+        return None;
+    }
+    for at in 0..size {
+        out[at] = pair(word[2 * at], word[2 * at + 1])?;
     }
     Some(size)
 }
