@@ -1,6 +1,6 @@
 // A buffer of fixed size.
-ghost use Rattle.std.specs.Prelude.{◌≡◌, ◌≤◌, ◌↔◌, ◌++◌, take, replicate, IsSome, OnSome, IfNone};
-ghost use Rattle.tool_script.specs.Words.{IsBytes};
+ghost use Rattle.std.specs.Prelude.{◌≡◌, ◌<◌, ◌≤◌, ◌↔◌, ℕ, List, All, ◌++◌, length, take, replicate, IsSome, OnSome, IfNone};
+ghost use Rattle.tool_script.specs.Words.{IsBytes, bytes_word};
 
 use crate::text;
 use page::bytes;
@@ -65,6 +65,8 @@ impl<const SIZE: usize> Buffer<SIZE> {
     // BYTES are in use, where the word is such and the buffer has room for them; else as many bytes as before.
     pub fn read(&mut self, word: &[u8]) -> Option<()>
         ensures word { OnSome result (IsBytes word.now self.new.len) }
+        ensures values { OnSome result (word.now ≡ bytes_word (take self.new.len self.new.bytes)) }
+        ensures none { IfNone result ((values : List ℕ) → All (λ byte. byte < 256) values → word.now ≡ bytes_word values → SIZE < length values) }
         ensures kept { IfNone result (self.new.len ≡ self.old.len) }
     {
         self.len = text::bytes(word, &mut self.bytes)?;

@@ -1,5 +1,5 @@
 // The script's text: parts of it, numbers and bytes.
-ghost use Rattle.std.specs.Prelude.{◌≡◌, ◌≢◌, ◌≤◌, ◌<◌, ◌⊎◌, ℕ, [], ◌∷◌, length, take, replicate, slice_range, IfSome, IfNone, SomeIff};
+ghost use Rattle.std.specs.Prelude.{◌≡◌, ◌≢◌, ◌≤◌, ◌<◌, ◌⊎◌, ℕ, List, All, [], ◌∷◌, length, take, replicate, slice_range, IfSome, IfNone, SomeIff};
 ghost use Rattle.std.specs.Str.Parse.{digits_value};
 ghost use Rattle.tool_script.specs.Words.{IsNumber, IsBytes, hex_digit, hex_digits, bytes_word};
 
@@ -65,6 +65,7 @@ pub fn bytes(word: &[u8], out: &mut [u8]) -> Option<usize>
     ensures fits { IfSome result (λ n. n ≤ length out.new) }
     ensures word { IfSome result (λ n. IsBytes word.now n) }
     ensures values { IfSome result (λ n. word.now ≡ bytes_word (take n out.new)) }
+    ensures none { IfNone result ((values : List ℕ) → All (λ byte. byte < 256) values → word.now ≡ bytes_word values → length out.old < length values) }
 {
     if matches!(word, b"-") {
         return Some(0);

@@ -1,8 +1,8 @@
 // A line, read word by word.
-ghost use Rattle.std.specs.Prelude.{◌≡◌, ◌==◌, ◌≤◌, ◌↔◌, ℕ, List, length, position, IsOk, IfOk, IfErr, ◌≢◌, ◌∷◌};
+ghost use Rattle.std.specs.Prelude.{◌≡◌, ◌==◌, ◌<◌, ◌≤◌, ◌↔◌, ℕ, List, All, length, take, position, IsOk, IfOk, IfErr, ◌≢◌, ◌∷◌};
 ghost use Rattle.std.specs.Iterator.{YieldsFirstRef, item_count};
 ghost use Rattle.std.specs.Str.Parse.{digits_value};
-ghost use Rattle.tool_script.specs.Words.{words_of, words_left, IsTaken, IsNumber, IsBytes};
+ghost use Rattle.tool_script.specs.Words.{words_of, words_left, IsTaken, IsNumber, IsBytes, bytes_word};
 
 use crate::buffer::Buffer;
 use crate::fault::Fault;
@@ -66,6 +66,9 @@ impl<'a> Words<'a> {
     // BYTES, into a buffer.
     pub fn bytes<const SIZE: usize>(&mut self, buffer: &mut Buffer<SIZE>) -> Result<(), Fault>
         ensures taken { IfOk result (λ done. (word : List ℕ) × IsTaken word self.old.rest self.new.rest × IsBytes word buffer.new.len) }
+        ensures values { IfOk result (λ done. IsTaken (bytes_word (take buffer.new.len buffer.new.bytes)) self.old.rest self.new.rest) }
+        ensures none { IfErr result (λ fault. (values : List ℕ) → (others : List (List ℕ)) → All (λ byte. byte < 256) values
+            → words_left self.old.rest ≡ bytes_word values ∷ others → SIZE < length values) }
         ensures kept { IfErr result (λ fault. buffer.new.len ≡ buffer.old.len) }
     {
         let word = self.next().ok_or(Fault::Bytes)?;

@@ -1,0 +1,22 @@
+-- The digits of bytes.
+use Rattle.std.proofs.Common.{◌≡◌, ◌≢◌, ℕ, suc, zero, List, [], ◌∷◌, ◌+◌, ◌*◌, ◌<◌, length, slice_index, codes, refl, ap, ◌∙◌, sym, arith}
+use Rattle.std.proofs.lemmas.Grind.{common_steps}
+use Rattle.std.specs.List.{flat_map}
+use Rattle.tool_script.specs.Words.{hex_digits, bytes_word}
+
+length_digits : (bytes : List ℕ) → length (flat_map hex_digits bytes) ≡ 2 * length bytes
+length_digits [] = refl
+length_digits (b ∷ bs) = let e = length_digits bs in omega (arith, e)
+
+-- a word that is not `-` has two digits for each byte, and one byte at least
+pub two_for_each : (word bytes : List ℕ) → word ≢ codes "-" → word ≡ bytes_word bytes
+    → (0 < length bytes) × (length word ≡ 2 * length bytes) × (word ≡ flat_map hex_digits bytes)
+two_for_each word [] h e = absurd (h e)
+two_for_each word (b ∷ bs) h e = (omega arith, ap length e ∙ length_digits (b ∷ bs), e)
+
+-- the digits of a byte stand in its place
+pub digits_at : (bytes : List ℕ) (at : ℕ) → at < length bytes
+    → slice_index (flat_map hex_digits bytes) (2 * at) ∷ slice_index (flat_map hex_digits bytes) (2 * at + 1) ∷ [] ≡ hex_digits (slice_index bytes at)
+digits_at [] at h = grind arith
+digits_at (b ∷ bs) zero h = refl
+digits_at (b ∷ bs) (suc at) h = grind (arith, common_steps, digits_at bs at)
