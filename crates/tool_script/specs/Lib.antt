@@ -1,3 +1,4 @@
 -- What the contracts of scripts mean.
 pub mod Words
 pub mod Spelled
+pub mod Trace

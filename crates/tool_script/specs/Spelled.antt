@@ -5,7 +5,9 @@ use Rattle.engine_call.specs.declared.outcome.Driver.TheVariants as d
 use Rattle.bench_flash.specs.declared.operation.Left as left
 use Rattle.bench_flash.specs.declared.operation.Left.TheVariants as l
 use Rattle.engine_state.specs.declared.state.State as state
-use Rattle.engine_state.specs.declared.state.State.TheVariants as s
+use Rattle.engine_state.specs.Log.{State, Idle, Read, Seek, Append, Sync, Erase, state_of}
+use Rattle.tool_script.specs.declared.fault.Fault as fault
+use Rattle.tool_script.specs.declared.fault.Fault.TheVariants as f
 use Rattle.tool_script.specs.declared.parse.Name as name
 use Rattle.tool_script.specs.declared.parse.Name.TheVariants as n
 use Rattle.tool_script.specs.declared.parse.End as end
@@ -47,10 +49,24 @@ left_word l.Blank = codes "blank"
 left_word l.New = codes "new"
 
 -- a state's name
+abbrev pub state_text : State → List ℕ
+state_text Idle = codes "idle"
+state_text Read = codes "read"
+state_text Seek = codes "seek"
+state_text Append = codes "append"
+state_text Sync = codes "sync"
+state_text Erase = codes "erase"
+
 abbrev pub state_word : state.State → List ℕ
-state_word s.Idle = codes "idle"
-state_word s.Read = codes "read"
-state_word s.Seek = codes "seek"
-state_word s.Append = codes "append"
-state_word s.Sync = codes "sync"
-state_word s.Erase = codes "erase"
+state_word s = state_text (state_of s)
+
+-- what is wrong with a line
+abbrev pub fault_text : fault.Fault → List ℕ
+fault_text f.Unknown = codes "no line begins with this word"
+fault_text f.Place = codes "this line is out of its place"
+fault_text f.Words = codes "this line has too many words"
+fault_text f.Number = codes "a number is missing or too large"
+fault_text f.Bytes = codes "bytes are missing, too many or not hexadecimal"
+fault_text f.Word = codes "a word is missing or may not stand there"
+fault_text f.Volume = codes "the volume has more than 65,536 bytes"
+fault_text f.Long = codes "the script has more than 4 MiB"

@@ -1,4 +1,7 @@
 // What is wrong with a line.
+ghost use Rattle.std.specs.Prelude.{Some};
+ghost use Rattle.tool_script.specs.Spelled.{fault_text};
+
 use std::fmt;
 
 #[derive(Clone, Copy, PartialEq, Eq)]
@@ -14,6 +17,8 @@ pub enum Fault {
 }
 
 impl fmt::Display for Fault {
+    ghost output = { λ fault. Some (fault_text fault) };
+
     fn fmt<W: fmt::Write>(&self, f: &mut fmt::Formatter<W>) -> fmt::Result {
         f.write_str(match self {
             Fault::Unknown => "no line begins with this word",

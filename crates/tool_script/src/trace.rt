@@ -1,10 +1,16 @@
 // The trace: its lines, and what they say as it is printed.
-ghost use Rattle.std.specs.Prelude.{◌≡◌, ◌++◌, ◌∷◌, [], ℕ, List, Some, take, IfOk};
+ghost use Rattle.std.specs.Prelude.{◌≡◌, ◌<◌, ◌≤◌, ◌*◌, ◌++◌, ◌∷◌, [], ℕ, List, Some, length, take, IfOk};
+ghost use Rattle.std.specs.List.{flat_map};
+ghost use Rattle.engine_state.specs.Answer.{report_of, request_of};
+ghost use Rattle.engine_state.specs.Log.{log_of};
+ghost use Rattle.engine_call.specs.Outcome.{outcome_of};
 ghost use Rattle.tool_script.specs.Spelled.{state_word};
+ghost use Rattle.tool_script.specs.Trace.{report_text, request_text, log_text, outcome_text};
+ghost use Rattle.tool_script.specs.Words.{hex_digit, hex_digits, bytes_word};
 
 use crate::buffer::Buffer;
 use engine_call::outcome::Outcome;
-use engine_state::answer::{Report, Request};
+use engine_state::answer::{Answer, Report, Request};
 use engine_state::state::{Log, State};
 use std::fmt::{Display, Write};
 use std::{fmt, io, str};
@@ -41,20 +47,30 @@ impl<'a, P: Print> Trace<'a, P> {
 #[derive(Clone, Copy)]
 pub struct Bytes<'a>(pub &'a [u8]);
 
-// The digits, and how many bytes are printed at a time.
-static DIGITS: [u8; 16] = *b"0123456789abcdef";
-
+// How many bytes are printed at a time.
 const BLOCK: usize = 64;
 
-// The digits of as many bytes as `out` has room for.
-fn put_digits(bytes: &[u8], out: &mut [u8]) {
-    for (pair, byte) in out.chunks_exact_mut(2).zip(bytes) {
-        pair[0] = DIGITS[*byte as usize / 16];
-        pair[1] = DIGITS[*byte as usize % 16];
+fn hex_digit(n: u8) -> u8
+    requires { n < 16 }
+    ensures { result ≡ hex_digit n }
+{
+    if n < 10 { b'0' + n } else { b'a' - 10 + n }
+}
+
+// The digits of bytes, two for each.
+fn put_digits(bytes: &[u8], out: &mut [u8])
+    requires { 2 * length bytes.now ≤ length out.old }
+    ensures { take (2 * length bytes.now) out.new ≡ flat_map hex_digits bytes.now }
+{
+    for at in 0..bytes.len() {
+        out[2 * at] = hex_digit(bytes[at] / 16);
+        out[2 * at + 1] = hex_digit(bytes[at] % 16);
     }
 }
 
 impl fmt::Display for Bytes<'_> {
+    ghost output = { λ bytes. Some (bytes_word bytes.0.now) };
+
     // A block at a time: with `{:02x}` for each byte a long line takes three times as long.
     fn fmt<W: fmt::Write>(&self, f: &mut fmt::Formatter<W>) -> fmt::Result {
         if self.0.is_empty() {
@@ -63,8 +79,8 @@ impl fmt::Display for Bytes<'_> {
         for bytes in self.0.chunks(BLOCK) {
             let mut digits = [0; 2 * BLOCK];
             put_digits(bytes, &mut digits);
-            let end = 2 * bytes.len().min(BLOCK);
-            f.write_str(str::from_utf8(&digits[..end]).map_err(|_| fmt::Error)?)?;
+            let text = &digits[..2 * bytes.len()];
+            f.write_str(str::from_utf8(text).map_err(|_| fmt::Error)?)?;
         }
         Ok(())
     }
@@ -75,6 +91,8 @@ impl fmt::Display for Bytes<'_> {
 pub struct Reported(pub Option<Report>);
 
 impl fmt::Display for Reported {
+    ghost output = { λ reported. Some (report_text (report_of reported.0)) };
+
     fn fmt<W: fmt::Write>(&self, f: &mut fmt::Formatter<W>) -> fmt::Result {
         match self.0 {
             None => write!(f, "-"),
@@ -84,8 +102,10 @@ impl fmt::Display for Reported {
             }
             Some(Report::SyncDone(result)) => write!(f, "sync_done {}", u8::from(result)),
             Some(Report::EraseDone(result)) => write!(f, "erase_done {}", u8::from(result)),
-            Some(Report::ReadDone(length)) => write!(f, "read_done {length} 0"),
-            Some(Report::SeekDone) => write!(f, "seek_done 0"),
+            Some(Report::ReadDone(length)) => {
+                write!(f, "read_done {length} {}", u8::from(Answer::OK))
+            }
+            Some(Report::SeekDone) => write!(f, "seek_done {}", u8::from(Answer::OK)),
         }
     }
 }
@@ -95,6 +115,8 @@ impl fmt::Display for Reported {
 pub struct Requested(pub Option<Request>);
 
 impl fmt::Display for Requested {
+    ghost output = { λ requested. Some (request_text (request_of requested.0)) };
+
     fn fmt<W: fmt::Write>(&self, f: &mut fmt::Formatter<W>) -> fmt::Result {
         match self.0 {
             None => write!(f, "-"),
@@ -124,6 +146,8 @@ pub(crate) fn state_name(state: State) -> &'static str
 pub struct Fields(pub Log);
 
 impl fmt::Display for Fields {
+    ghost output = { λ fields. Some (log_text (log_of fields.0)) };
+
     fn fmt<W: fmt::Write>(&self, f: &mut fmt::Formatter<W>) -> fmt::Result {
         let log = self.0;
         let state = state_name(log.state);
@@ -141,6 +165,8 @@ impl fmt::Display for Fields {
 pub struct Given(pub Outcome);
 
 impl fmt::Display for Given {
+    ghost output = { λ given. Some (outcome_text (outcome_of given.0)) };
+
     fn fmt<W: fmt::Write>(&self, f: &mut fmt::Formatter<W>) -> fmt::Result {
         let given = self.0;
         let answer = u8::from(given.answer);

@@ -1,5 +1,5 @@
 -- `tool_script::text::bytes` reads the digits from the left: those that were passed are the digits of the bytes that stand in front.
-use Rattle.std.proofs.Common.{◌≡◌, ◌≤◌, ◌*◌, take, length}
+use Rattle.std.proofs.Common.{◌≡◌, ◌*◌, take}
 use Rattle.std.specs.List.{flat_map}
 use Rattle.tool_script.specs.Words.{hex_digits}
 use Rattle.tool_script.proofs.text.bytes.Given as goal

@@ -1,5 +1,5 @@
 -- `tool_script::buffer::Buffer` writes text behind the part that is in use: that part and the text stand in front.
-use Rattle.std.proofs.Common.{◌≡◌, ℕ, List, ◌+◌, ◌++◌, ◌≤◌, length, take, ap, ◌∙◌, take_at, length-append, length-take, arith}
+use Rattle.std.proofs.Common.{◌≡◌, ℕ, List, ◌+◌, ◌++◌, ◌≤◌, length, take, take_at, length-append, length-take, arith}
 use Rattle.page.specs.Bytes.{overwrite}
 use Rattle.tool_script.proofs.buffer.BufferWrite.write_str.Goals as goal
 
