@@ -2,3 +2,4 @@
 pub mod Words
 pub mod Spelled
 pub mod Trace
+pub mod Lines

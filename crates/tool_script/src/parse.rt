@@ -1,5 +1,7 @@
 // A line of the script, read as a call.
-ghost use Rattle.std.specs.Prelude.{◌≡◌, ◌↔◌, IsTrue};
+ghost use Rattle.std.specs.Prelude.{◌≡◌, ◌≤◌, ◌↔◌, ℕ, List, ◌∷◌, length, take, codes, IsTrue, IfOk};
+ghost use Rattle.tool_script.specs.Words.{words_left};
+ghost use Rattle.tool_script.specs.Lines.{Spells};
 ghost use Rattle.tool_script.specs.Spelled.{name_word, driver_word, left_word, state_word, end_word};
 
 use crate::buffer::Buffer;
@@ -197,20 +199,29 @@ pub enum Line {
     Other(Other),
 }
 
-fn append<const SIZE: usize>(mut words: Words, client: &mut Buffer<SIZE>) -> Result<Line, Fault> {
+fn append<const SIZE: usize>(mut words: Words, client: &mut Buffer<SIZE>) -> Result<Line, Fault>
+    requires { length (words_left words.rest) ≤ 3 }
+    ensures { IfOk result (λ line. Spells (codes "append" ∷ words_left words.entry.rest) line (take client.new.len client.new.bytes)) }
+{
     let length = words.number()?;
     words.bytes(client)?;
     Ok(Line::Call(Call::Append(length, words.word()?)))
 }
 
-fn read<const SIZE: usize>(mut words: Words, client: &mut Buffer<SIZE>) -> Result<Line, Fault> {
+fn read<const SIZE: usize>(mut words: Words, client: &mut Buffer<SIZE>) -> Result<Line, Fault>
+    requires { length (words_left words.rest) ≤ 2 }
+    ensures { IfOk result (λ line. Spells (codes "read" ∷ words_left words.entry.rest) line (take client.new.len client.new.bytes)) }
+{
     let length = words.number()?;
     words.bytes(client)?;
     Ok(Line::Call(Call::Read(length)))
 }
 
 // After `ok` a write leaves the new page; after `fail` one of three.
-fn write_complete(mut words: Words) -> Result<Line, Fault> {
+fn write_complete(mut words: Words) -> Result<Line, Fault>
+    requires { length (words_left words.rest) ≤ 2 }
+    ensures { (client : List ℕ) → IfOk result (λ line. Spells (codes "write_complete" ∷ words_left words.entry.rest) line client) }
+{
     match (words.word()?, words.word()?) {
         (End::Well, Left::New) => Ok(Line::Complete(Completion::Write(true), Left::New)),
         (End::Well, _) => Err(Fault::Word),
@@ -219,7 +230,10 @@ fn write_complete(mut words: Words) -> Result<Line, Fault> {
 }
 
 // After `ok` an erase leaves 0xFF everywhere; after `fail` one of two.
-fn erase_complete(mut words: Words) -> Result<Line, Fault> {
+fn erase_complete(mut words: Words) -> Result<Line, Fault>
+    requires { length (words_left words.rest) ≤ 3 }
+    ensures { (client : List ℕ) → IfOk result (λ line. Spells (codes "erase_complete" ∷ words_left words.entry.rest) line client) }
+{
     let (end, left, word) = (words.word()?, words.word()?, words.word()?);
     match (end, left) {
         (End::Well, Left::Blank) => Ok(Line::Complete(Completion::Erase(true, word), left)),
@@ -230,7 +244,10 @@ fn erase_complete(mut words: Words) -> Result<Line, Fault> {
     }
 }
 
-fn state_put(mut words: Words) -> Result<Line, Fault> {
+fn state_put(mut words: Words) -> Result<Line, Fault>
+    requires { length (words_left words.rest) ≤ 5 }
+    ensures { (client : List ℕ) → IfOk result (λ line. Spells (codes "state" ∷ words_left words.entry.rest) line client) }
+{
     Ok(Line::Other(Other::Put(Put {
         state: words.word()?,
         oldest: EntryID(words.number()?),
@@ -245,7 +262,9 @@ pub fn parse_line<const SIZE: usize>(
     name: Name,
     words: Words,
     client: &mut Buffer<SIZE>,
-) -> Result<Line, Fault> {
+) -> Result<Line, Fault>
+    ensures { IfOk result (λ line. Spells (name_word name ∷ words_left words.entry.rest) line (take client.new.len client.new.bytes)) }
+{
     client.clear();
     match name {
         Name::Sizes | Name::Restart => Err(Fault::Place),

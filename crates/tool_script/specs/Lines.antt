@@ -1,0 +1,43 @@
+-- The lines of a script after the first three, by their words.
+use Rattle.std.specs.Prelude.{◌≡◌, ◌≢◌, ◌≤◌, ℕ, Bool, true, if◌then◌else◌, List, [], ◌∷◌, codes}
+use Rattle.std.specs.Str.Parse.{digits_value}
+use Rattle.bench_flash.specs.declared.event.Call.TheVariants as c
+use Rattle.bench_flash.specs.declared.event.Completion.TheVariants as d
+use Rattle.bench_flash.specs.declared.operation.Left.TheVariants as k
+use Rattle.tool_script.specs.declared.parse.Line as line
+use Rattle.tool_script.specs.declared.parse.Line.TheVariants as l
+use Rattle.tool_script.specs.declared.parse.Other.TheVariants as o
+use Rattle.tool_script.specs.declared.parse.End as end
+use Rattle.tool_script.specs.declared.parse.End.TheVariants as e
+use Rattle.tool_script.specs.Words.{IsNumber, bytes_word}
+use Rattle.tool_script.specs.Spelled.{driver_word, left_word, state_word, end_word}
+
+-- the word is the number n
+abbrev pub Numeral : List ℕ → ℕ → Type 0
+Numeral word n = IsNumber word × (n ≡ digits_value 10 word)
+
+abbrev pub ended : Bool → end.End
+ended good = if good then e.Well else e.Badly
+
+-- the words of a line that is this call, with the bytes of the client's buffer
+abbrev pub Spells : List (List ℕ) → line.Line → List ℕ → Type 0
+Spells words (l.Call (c.Append length driver)) client =
+    (n : List ℕ) × Numeral n length × (words ≡ codes "append" ∷ n ∷ bytes_word client ∷ driver_word driver ∷ [])
+Spells words (l.Call (c.Read length)) client = (n : List ℕ) × Numeral n length × (words ≡ codes "read" ∷ n ∷ bytes_word client ∷ [])
+Spells words (l.Call (c.Seek id)) client = (n : List ℕ) × Numeral n id.0 × (words ≡ codes "seek" ∷ n ∷ [])
+Spells words (l.Call (c.Sync driver)) client = words ≡ codes "sync" ∷ driver_word driver ∷ []
+Spells words (l.Call (c.Erase driver)) client = words ≡ codes "erase" ∷ driver_word driver ∷ []
+Spells words (l.Call c.Deferred) client = words ≡ codes "deferred" ∷ []
+-- "after `ok` it is `new`"
+Spells words (l.Complete (d.Write good) left) client =
+    (words ≡ codes "write_complete" ∷ end_word (ended good) ∷ left_word left ∷ []) × (good ≡ true → left ≡ k.New)
+-- "LEFT is `old` or `blank`; after `ok` it is `blank`"
+Spells words (l.Complete (d.Erase good driver) left) client =
+    (words ≡ codes "erase_complete" ∷ end_word (ended good) ∷ left_word left ∷ driver_word driver ∷ []) × (good ≡ true → left ≡ k.Blank) × (left ≢ k.New)
+Spells words (l.Other (o.Cut left)) client = words ≡ codes "cut" ∷ left_word left ∷ []
+Spells words (l.Other o.Get) client = words ≡ codes "get" ∷ []
+Spells words (l.Other (o.Survey count)) client = (n : List ℕ) × Numeral n count × (count ≤ 4096) × (words ≡ codes "survey" ∷ n ∷ [])
+Spells words (l.Other o.Volume) client = words ≡ codes "volume" ∷ []
+Spells words (l.Other (o.Put put)) client =
+    (o r a m : List ℕ) × Numeral o put.oldest.0 × Numeral r put.read.0 × Numeral a put.append.0 × Numeral m put.length
+    × (words ≡ codes "state" ∷ state_word put.state ∷ o ∷ r ∷ a ∷ m ∷ [])
