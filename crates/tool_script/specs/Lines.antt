@@ -16,10 +16,11 @@ use Rattle.tool_script.specs.Spelled.{driver_word, left_word, state_word, end_wo
 abbrev pub Numeral : List ℕ → ℕ → Type 0
 Numeral word n = IsNumber word × (n ≡ digits_value 10 word)
 
+-- how an operation ended, well or badly
 abbrev pub ended : Bool → end.End
 ended good = if good then e.Well else e.Badly
 
--- the words of a line that is this call, with the bytes of the client's buffer
+-- these are the words of a line, with the bytes of the client's buffer
 abbrev pub Spells : List (List ℕ) → line.Line → List ℕ → Type 0
 Spells words (l.Call (c.Append length driver)) client =
     (n : List ℕ) × Numeral n length × (words ≡ codes "append" ∷ n ∷ bytes_word client ∷ driver_word driver ∷ [])
@@ -28,10 +29,10 @@ Spells words (l.Call (c.Seek id)) client = (n : List ℕ) × Numeral n id.0 × (
 Spells words (l.Call (c.Sync driver)) client = words ≡ codes "sync" ∷ driver_word driver ∷ []
 Spells words (l.Call (c.Erase driver)) client = words ≡ codes "erase" ∷ driver_word driver ∷ []
 Spells words (l.Call c.Deferred) client = words ≡ codes "deferred" ∷ []
--- "after `ok` it is `new`"
+-- `write_complete ok new` or `write_complete fail LEFT`
 Spells words (l.Complete (d.Write good) left) client =
     (words ≡ codes "write_complete" ∷ end_word (ended good) ∷ left_word left ∷ []) × (good ≡ true → left ≡ k.New)
--- "LEFT is `old` or `blank`; after `ok` it is `blank`"
+-- `erase_complete ok blank WORD` or `erase_complete fail LEFT WORD`, where "LEFT is `old` or `blank`"
 Spells words (l.Complete (d.Erase good driver) left) client =
     (words ≡ codes "erase_complete" ∷ end_word (ended good) ∷ left_word left ∷ driver_word driver ∷ []) × (good ≡ true → left ≡ k.Blank) × (left ≢ k.New)
 Spells words (l.Other (o.Cut left)) client = words ≡ codes "cut" ∷ left_word left ∷ []

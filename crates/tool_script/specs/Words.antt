@@ -40,7 +40,7 @@ hex_digit d = digit_glyph false d
 abbrev pub hex_digits : ℕ → List ℕ
 hex_digits byte = hex_digit (byte / 16) ∷ hex_digit (byte % 16) ∷ []
 
--- BYTES: two lower-case hexadecimal digits for each byte, or `-` for no bytes
+-- BYTES: "two lower-case hexadecimal digits for each byte, or `-` for no bytes"
 abbrev pub bytes_word : List ℕ → List ℕ
 bytes_word [] = codes "-"
 bytes_word (b ∷ bs) = flat_map hex_digits (b ∷ bs)
