@@ -1,2 +1,3 @@
 -- What the contracts of the replay mean.
 pub mod Spelled
+pub mod Trace

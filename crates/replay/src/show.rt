@@ -1,4 +1,7 @@
 // The trace of a call.
+ghost use Rattle.std.specs.Prelude.{Some};
+ghost use Rattle.replay.specs.Trace.{shown_text};
+
 use crate::state::Replay;
 use bench_step::world::Step;
 use engine_call::outcome::Outcome;
@@ -15,6 +18,8 @@ struct Shown<'a> {
 }
 
 impl fmt::Display for Shown<'_> {
+    ghost output = { λ shown. Some (shown_text shown) };
+
     fn fmt<W: fmt::Write>(&self, f: &mut fmt::Formatter<W>) -> fmt::Result {
         let told = self.step.told;
         let Some(answer) = told.answer else {

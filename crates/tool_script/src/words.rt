@@ -46,7 +46,8 @@ impl<'a> Words<'a> {
 
     // A number.
     pub fn number(&mut self) -> Result<usize, Fault>
-        ensures { IfOk result (λ n. (word : List ℕ) × IsTaken word self.old.rest self.new.rest × IsNumber word × (n ≡ digits_value 10 word)) }
+        ensures number { IfOk result (λ n. (word : List ℕ) × IsTaken word self.old.rest self.new.rest × IsNumber word × (n ≡ digits_value 10 word)) }
+        ensures none { IfErr result (λ fault. (word : List ℕ) → (others : List (List ℕ)) → words_left self.old.rest ≡ word ∷ others → ¬ IsNumber word) }
     {
         self.next().and_then(text::number).ok_or(Fault::Number)
     }
@@ -55,6 +56,8 @@ impl<'a> Words<'a> {
     pub fn number_up_to(&mut self, limit: usize) -> Result<usize, Fault>
         ensures number { IfOk result (λ n. (word : List ℕ) × IsTaken word self.old.rest self.new.rest × IsNumber word × (n ≡ digits_value 10 word)) }
         ensures limit { IfOk result (λ n. n ≤ limit) }
+        ensures none { IfErr result (λ fault. (word : List ℕ) → (others : List (List ℕ)) → words_left self.old.rest ≡ word ∷ others → IsNumber word
+            → limit < digits_value 10 word) }
     {
         let n = self.number()?;
         if limit < n {
