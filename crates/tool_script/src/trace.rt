@@ -50,6 +50,7 @@ pub struct Bytes<'a>(pub &'a [u8]);
 // How many bytes are printed at a time.
 const BLOCK: usize = 64;
 
+// The digit of a number below 16.
 fn hex_digit(n: u8) -> u8
     requires { n < 16 }
     ensures { result ≡ hex_digit n }
