@@ -1,10 +1,12 @@
 -- The digits of bytes.
-use Rattle.std.proofs.Common.{◌≡◌, ◌≢◌, ℕ, suc, zero, List, [], ◌∷◌, ◌++◌, ◌+◌, ◌*◌, ◌<◌, length, take, slice_index, slice_set, codes, refl, ap, ◌∙◌, sym, arith, append_assoc}
+use Rattle.std.proofs.Common.{◌≡◌, ◌≢◌, ℕ, suc, zero, List, [], ◌∷◌, ◌++◌, ◌+◌, ◌*◌, ◌<◌, length, take, slice_index, slice_set, codes}
+use Rattle.std.proofs.Common.{refl, ap, ◌∙◌, sym, arith, append_assoc}
 use Rattle.std.proofs.lemmas.List.{length-set, take_more, take_more_set, flat_map_more}
 use Rattle.std.proofs.lemmas.Grind.{common_steps}
 use Rattle.std.specs.List.{flat_map}
 use Rattle.tool_script.specs.Words.{hex_digits, bytes_word}
 
+-- two digits for each byte
 length_digits : (bytes : List ℕ) → length (flat_map hex_digits bytes) ≡ 2 * length bytes
 length_digits [] = refl
 length_digits (b ∷ bs) = let e = length_digits bs in omega (arith, e)
