@@ -1,4 +1,5 @@
 -- What a caller of an export learns is what a caller learns of the function at any word of 4 bytes: no clause is weaker here.
+-- A law for each export, as C's names need it; what they have in common is one step, `rw w e`.
 use Rattle.std.proofs.Common.{◌≡◌, ℕ, map-id, w32}
 use denote.RattleType.{RattleType}
 use denote.Plain.{UInt}
