@@ -1,5 +1,5 @@
 // The bench's world, and what is told of an event. The volume, the page buffer and the hold buffer are lent beside it: each function is lent for writing those
-// alone that it may change, so they are no struct, and that SHAPE lets them through is a `requires` of what a restart of the list can reach.
+// alone that it may change, so they are no struct, and those that run a restart of the list require that SHAPE lets them through.
 ghost use Rattle.std.specs.Prelude.{◌≡◌, false, List, ℕ};
 ghost use Rattle.std.proofs.Math.Option.{none};
 ghost use Rattle.engine_state.specs.Answer.{no_report};

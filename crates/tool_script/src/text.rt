@@ -60,8 +60,8 @@ fn pair(high: u8, low: u8) -> Option<u8>
     Some(digit(high)? * 16 + digit(low)?)
 }
 
-// BYTES go to the front of `out`; their count, unless the word is none or has too many. By index: tried with `iter_mut`, after which nothing says what
-// stands in `out`.
+// BYTES go to the front of `out`; their count, unless the word is none or has too many. By index: tried with `iter_mut` and `zip`, after
+// which a proof knows nothing of the elements.
 pub fn bytes(word: &[u8], out: &mut [u8]) -> Option<usize>
     ensures fits { IfSome result (λ n. n ≤ length out.new) }
     ensures word { IfSome result (λ n. IsBytes word.now n) }

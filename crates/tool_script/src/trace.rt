@@ -58,7 +58,7 @@ fn hex_digit(n: u8) -> u8
     if n < 10 { b'0' + n } else { b'a' - 10 + n }
 }
 
-// The digits of bytes, two for each. By index: tried with `chunks_exact_mut`, after which nothing says what stands in `out`.
+// The digits of bytes, two for each. By index: tried with `chunks_exact_mut` and `zip`, after which a proof knows nothing of the elements.
 fn put_digits(bytes: &[u8], out: &mut [u8])
     requires { 2 * length bytes.now ≤ length out.old }
     ensures { take (2 * length bytes.now) out.new ≡ flat_map hex_digits bytes.now }
