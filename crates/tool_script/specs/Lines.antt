@@ -17,8 +17,8 @@ abbrev pub Numeral : List ℕ → ℕ → Type 0
 Numeral word n = IsNumber word × (n ≡ digits_value 10 word)
 
 -- how an operation ended, well or badly
-abbrev pub ended : Bool → end.End
-ended good = if good then e.Well else e.Badly
+abbrev pub end_of : Bool → end.End
+end_of good = if good then e.Well else e.Badly
 
 -- these are the words of a line, with the bytes of the client's buffer
 abbrev pub Spells : List (List ℕ) → line.Line → List ℕ → Type 0
@@ -31,10 +31,10 @@ Spells words (l.Call (c.Erase driver)) client = words ≡ codes "erase" ∷ driv
 Spells words (l.Call c.Deferred) client = words ≡ codes "deferred" ∷ []
 -- `write_complete ok new` or `write_complete fail LEFT`
 Spells words (l.Complete (d.Write good) left) client =
-    (words ≡ codes "write_complete" ∷ end_word (ended good) ∷ left_word left ∷ []) × (good ≡ true → left ≡ k.New)
+    (words ≡ codes "write_complete" ∷ end_word (end_of good) ∷ left_word left ∷ []) × (good ≡ true → left ≡ k.New)
 -- `erase_complete ok blank WORD` or `erase_complete fail LEFT WORD`, where "LEFT is `old` or `blank`"
 Spells words (l.Complete (d.Erase good driver) left) client =
-    (words ≡ codes "erase_complete" ∷ end_word (ended good) ∷ left_word left ∷ driver_word driver ∷ []) × (good ≡ true → left ≡ k.Blank) × (left ≢ k.New)
+    (words ≡ codes "erase_complete" ∷ end_word (end_of good) ∷ left_word left ∷ driver_word driver ∷ []) × (good ≡ true → left ≡ k.Blank) × (left ≢ k.New)
 Spells words (l.Other (o.Cut left)) client = words ≡ codes "cut" ∷ left_word left ∷ []
 Spells words (l.Other o.Get) client = words ≡ codes "get" ∷ []
 Spells words (l.Other (o.Survey count)) client = (n : List ℕ) × Numeral n count × (count ≤ 4096) × (words ≡ codes "survey" ∷ n ∷ [])

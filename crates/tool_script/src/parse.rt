@@ -200,8 +200,8 @@ pub enum Line {
 }
 
 fn append<const SIZE: usize>(mut words: Words, client: &mut Buffer<SIZE>) -> Result<Line, Fault>
-    requires { length (words_left words.rest) ≤ 3 }
-    ensures { IfOk result (λ line. Spells (codes "append" ∷ words_left words.entry.rest) line (take client.new.len client.new.bytes)) }
+    ensures { length (words_left words.entry.rest) ≤ 3
+        → IfOk result (λ line. Spells (codes "append" ∷ words_left words.entry.rest) line (take client.new.len client.new.bytes)) }
 {
     let length = words.number()?;
     words.bytes(client)?;
@@ -209,8 +209,8 @@ fn append<const SIZE: usize>(mut words: Words, client: &mut Buffer<SIZE>) -> Res
 }
 
 fn read<const SIZE: usize>(mut words: Words, client: &mut Buffer<SIZE>) -> Result<Line, Fault>
-    requires { length (words_left words.rest) ≤ 2 }
-    ensures { IfOk result (λ line. Spells (codes "read" ∷ words_left words.entry.rest) line (take client.new.len client.new.bytes)) }
+    ensures { length (words_left words.entry.rest) ≤ 2
+        → IfOk result (λ line. Spells (codes "read" ∷ words_left words.entry.rest) line (take client.new.len client.new.bytes)) }
 {
     let length = words.number()?;
     words.bytes(client)?;
@@ -219,8 +219,8 @@ fn read<const SIZE: usize>(mut words: Words, client: &mut Buffer<SIZE>) -> Resul
 
 // After `ok` a write leaves the new page; after `fail` one of three.
 fn write_complete(mut words: Words) -> Result<Line, Fault>
-    requires { length (words_left words.rest) ≤ 2 }
-    ensures { (client : List ℕ) → IfOk result (λ line. Spells (codes "write_complete" ∷ words_left words.entry.rest) line client) }
+    ensures { (client : List ℕ) → length (words_left words.entry.rest) ≤ 2
+        → IfOk result (λ line. Spells (codes "write_complete" ∷ words_left words.entry.rest) line client) }
 {
     match (words.word()?, words.word()?) {
         (End::Well, Left::New) => Ok(Line::Complete(Completion::Write(true), Left::New)),
@@ -231,8 +231,8 @@ fn write_complete(mut words: Words) -> Result<Line, Fault>
 
 // After `ok` an erase leaves 0xFF everywhere; after `fail` one of two.
 fn erase_complete(mut words: Words) -> Result<Line, Fault>
-    requires { length (words_left words.rest) ≤ 3 }
-    ensures { (client : List ℕ) → IfOk result (λ line. Spells (codes "erase_complete" ∷ words_left words.entry.rest) line client) }
+    ensures { (client : List ℕ) → length (words_left words.entry.rest) ≤ 3
+        → IfOk result (λ line. Spells (codes "erase_complete" ∷ words_left words.entry.rest) line client) }
 {
     let (end, left, word) = (words.word()?, words.word()?, words.word()?);
     match (end, left) {
@@ -245,8 +245,8 @@ fn erase_complete(mut words: Words) -> Result<Line, Fault>
 }
 
 fn state_put(mut words: Words) -> Result<Line, Fault>
-    requires { length (words_left words.rest) ≤ 5 }
-    ensures { (client : List ℕ) → IfOk result (λ line. Spells (codes "state" ∷ words_left words.entry.rest) line client) }
+    ensures { (client : List ℕ) → length (words_left words.entry.rest) ≤ 5
+        → IfOk result (λ line. Spells (codes "state" ∷ words_left words.entry.rest) line client) }
 {
     Ok(Line::Other(Other::Put(Put {
         state: words.word()?,
