@@ -1,4 +1,4 @@
-// Any call of the log, and any completion.
+// Any call of the log, and any completion. What is lent stays parameters, for the reason in world.rt.
 ghost use Rattle.std.specs.Prelude.{◌≡◌};
 ghost use Rattle.std.proofs.Math.ListN as lists;
 ghost use Rattle.engine_state.specs.Log.{log_of};

@@ -1,4 +1,4 @@
-// The power: a cut, and a restart.
+// The power: a cut, and a restart. What is lent stays parameters, for the reason in world.rt.
 ghost use Rattle.std.specs.Prelude.{◌≡◌, true, List, ℕ, length};
 ghost use Rattle.std.proofs.Math.Option.{none, some};
 ghost use Rattle.engine_state.specs.Answer.{number, no_report};

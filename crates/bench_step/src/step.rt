@@ -1,4 +1,4 @@
-// An event: what it does to the world, and what is told of it.
+// An event: what it does to the world, and what is told of it. What is lent stays parameters, for the reason in world.rt.
 ghost use Rattle.std.specs.Prelude.{◌≡◌, true, List, ℕ, length};
 ghost use Rattle.engine_state.specs.Log.{setup_of};
 ghost use Rattle.engine_state.specs.Check.{shape_fits};
