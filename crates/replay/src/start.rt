@@ -126,7 +126,7 @@ impl<P: Print> Replay<'_, P> {
         geometry
             .page_size
             .checked_mul(geometry.page_count)
-            .and_then(|size| self.volume.fill((byte & 0xff) as u8, size))
+            .and_then(|size| self.volume.fill(byte as u8, size))
             .ok_or(Fault::Volume)
     }
 
