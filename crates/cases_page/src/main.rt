@@ -10,17 +10,18 @@ mod survey;
 mod volume;
 mod walk;
 
+use page::word::WordWidth;
 use std::io;
 use tool_print::board::Board;
 use tool_print::print::Cases;
 
 fn main(rt: HostRuntime) -> io::Result<()> {
-    for width in [4, 8] {
+    for width in [WordWidth::FOUR, WordWidth::EIGHT] {
         let on = Cases {
             rt: &rt,
-            board: Board::new(width),
+            board: Board { width },
         };
-        on.line("w", width)?;
+        on.line("w", width.bytes)?;
         id::cases(&on)?;
         walk::cases(&on)?;
         header::cases(&on)?;
