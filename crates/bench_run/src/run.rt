@@ -28,7 +28,8 @@ pub struct FoundLog {
     pub entries: Entries,
 }
 
-// A list runs to its last complete event.
+// A list runs to its last complete event. By `while let`, since each event begins where the one before it ends: an iterator would be a type with clauses
+// of its own for this one loop.
 #[tactic(auto, using(crate::proofs::Lists::size_found))]
 fn run_list(
     setup: Setup,

@@ -19,7 +19,7 @@ use engine_state::answer::{Answer, Report, Request};
 use engine_state::state::{Clients, Log, Setup, State};
 use page::id::EntryID;
 
-// The power and the log are two fields, as in the definition: with the power off the log is any.
+// The power and the log are two fields, as in the definition, which keeps the log over a cut.
 #[derive(Clone, Copy)]
 pub struct World {
     pub power: bool,
@@ -35,7 +35,8 @@ pub enum Ended {
     Erased(Left),
 }
 
-// What is told of an event: what an operation that ended has left; the answer, where a call was delivered; its report and its request.
+// What is told of an event: what an operation that ended has left; the answer, where a call was delivered; its report and its request. The fields are the
+// definition's, which has the slot of a request to erase in place of the request.
 #[derive(Clone, Copy)]
 pub struct Told {
     pub ended: Option<Ended>,

@@ -103,7 +103,8 @@ impl From<&Outcome> for RequestNumbers {
     }
 }
 
-// The driver's word: 0 is OK, 2 is BUSY, and any other number is FAIL. A function, since `From<u8> for Driver` can stand only beside `Driver`.
+// The driver's word: 0 is OK, 2 is BUSY, and any other number is FAIL. A function, since `From<u8> for Driver` can stand only beside `Driver`,
+// and a type around the number, to carry a From, would be no plainer.
 pub(crate) fn word_from(number: u8) -> Driver
     ensures { word_of result ≡ word_from number }
 {

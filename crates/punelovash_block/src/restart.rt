@@ -11,7 +11,7 @@ use engine_restart::restart;
 use engine_state::answer::Answer;
 use engine_state::state::{Clients, Geometry, Setup};
 
-// Restarts the log on a volume. Flags are 0 or not.
+// Restarts the log on a volume. Flags are 0 or not. The numbers are C's parameters, as it passes them.
 pub fn restart<W: Word>(
     block: &mut [u8],
     page_size: u32,

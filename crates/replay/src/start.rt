@@ -18,7 +18,8 @@ use tool_script::words::{Word, Words};
 // The largest of the sizes: below 2^32.
 const LARGEST: usize = 4294967295;
 
-// The buffers' length before the first restart: P where SHAPE admits P, else they are empty.
+// The buffers' length before the first restart: P where SHAPE admits P, else they are empty. No Option, which would have to be taken apart at each line:
+// with other sizes SHAPE refuses a buffer of any length, one of no byte too.
 fn buffer_size(setup: Setup) -> usize {
     let one_page = Geometry {
         page_count: 1,

@@ -28,7 +28,8 @@ pub(crate) struct Replay<'a, P: Print> {
 }
 
 impl<'a, P: Print> Replay<'a, P> {
-    // Before the first line: sizes that SHAPE refuses, until the script says its own.
+    // Before the first line: sizes that SHAPE refuses, until the script says its own. An Option would have to be taken apart at each line, and such sizes
+    // mean the same.
     pub(crate) fn new(rt: &'a P) -> Self {
         let setup = Setup {
             width: 4,

@@ -71,6 +71,8 @@ impl Name {
 impl Word for Name {
     ghost spelled = { name_word };
 
+    // A match with guards and no array that is searched: that each value is read is seen in the arms. Tried with an array and `find`: the check
+    // then does not prove the clause `none` by itself.
     fn from_word(word: &[u8]) -> Option<Self> {
         match word {
             _ if Name::Sizes.is(word) => Some(Name::Sizes),
@@ -139,6 +141,7 @@ fn is_state(word: &[u8], state: State) -> bool
 impl Word for State {
     ghost spelled = { state_word };
 
+    // A match with guards, as for `Name`.
     fn from_word(word: &[u8]) -> Option<Self> {
         match word {
             _ if is_state(word, State::Idle) => Some(State::Idle),

@@ -15,7 +15,7 @@ use engine_state::state::{Log, State};
 use std::fmt::{Display, Write};
 use std::{fmt, io, str};
 
-// The trace, written a line at a time. A longest line is a volume of 65,536 bytes.
+// The trace, written a line at a time. The longest line is that of a volume of 65,536 bytes.
 #[derive(Drop)]
 pub struct Trace<'a, P: Print> {
     rt: &'a P,
@@ -127,7 +127,7 @@ impl fmt::Display for Requested {
     }
 }
 
-// A state's name. No Display, since the type is of another crate.
+// A state's name. A function and no Display: a state is read by it too.
 #[inline(always)]
 pub(crate) fn state_name(state: State) -> &'static str
     ensures { result.now ≡ state_word state }
