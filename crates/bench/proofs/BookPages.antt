@@ -5,9 +5,9 @@ use mathlib.Core.List.{List}
 use mathlib.Core.Option.{Option, none, some}
 use native.Mathlib.Omega.{arith}
 use native.Mathlib.Decide.{dec_lt}
+use native.Mathlib.Nat.{mul-le-mul_right}
 use borrow.Author.Tests.{lt-ltb, le-ltb}
 use Rattle.page.specs.Header.{header, joined, ids_below, Extent, widen, extent}
-use Rattle.page.proofs.Kit.{pages_le}
 use Rattle.page.proofs.Headers.{page_in_slot}
 use Rattle.engine_state.specs.Log.{Setup}
 use Rattle.engine_state.specs.Check.{Sized}
@@ -134,12 +134,12 @@ module _ (p : ℕ) (slots : ℕ → Option Page) (m : ℕ) where
         more = dec_lt k.number j.number
 
         low : Dec (a < k.number) → min (k.number * p) x.least ≡ lesser k.number (some a) * p
-        low (yes l) = rw (lt-ltb a k.number l) (omega (arith, pages_le {k = a} {j = k.number} p (omega arith)))
-        low (no l) = let u : k.number ≤ a = omega arith in rw (le-ltb a k.number u) (omega (arith, pages_le p u))
+        low (yes l) = rw (lt-ltb a k.number l) (omega (arith, mul-le-mul_right {m = a} {n = k.number} p (omega arith)))
+        low (no l) = let u : k.number ≤ a = omega arith in rw (le-ltb a k.number u) (omega (arith, mul-le-mul_right p u))
 
         high : Dec (k.number < j.number) → max (k.number * p) x.greatest ≡ (newer k (some j)).number * p
-        high (yes l) = rw (lt-ltb k.number j.number l) (omega (arith, pages_le {k = k.number} {j = j.number} p (omega arith)))
-        high (no l) = let u : j.number ≤ k.number = omega arith in rw (le-ltb k.number j.number u) (omega (arith, pages_le p u))
+        high (yes l) = rw (lt-ltb k.number j.number l) (omega (arith, mul-le-mul_right {m = k.number} {n = j.number} p (omega arith)))
+        high (no l) = let u : j.number ≤ k.number = omega arith in rw (le-ltb k.number j.number u) (omega (arith, mul-le-mul_right p u))
 
 -- the valid headers of a volume are those of the book's pages
 pub headers_pages : (g : Setup) (volume : List ℕ) (slots : ℕ → Option Page) → Sized g → ((s : ℕ) → s < g.n → SlotHolds g volume s (slots s))

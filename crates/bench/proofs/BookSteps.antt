@@ -7,11 +7,12 @@ use mathlib.Core.List.{List, [], ◌∷◌, ◌++◌, append-nil}
 use mathlib.Core.Logic.{◌⊎◌, inl, inr}
 use mathlib.Core.Option.{Option, none, some}
 use native.Mathlib.Omega.{arith}
-use native.Mathlib.Nat.{mod-lt, mul-mod_left}
+use native.Mathlib.Nat.{mod-lt, mul-mod_left, mul-le-mul_right}
 use native.Mathlib.Decide.{ℕ_discrete, dec_lt}
 use lib.ListN.{length, length-append, take, replicate, length-replicate}
 use lib.Dec.{ltb, leb}
 use borrow.Author.Tests.{eq-eqb, ne_eqb, le-leb, ltb-true, lt-ltb, le-ltb}
+use Rattle.std.proofs.lemmas.List.{take-replicate}
 use Rattle.page.specs.Pick.{pick}
 use Rattle.page.specs.Sizes.{ceiling}
 use Rattle.page.specs.Id.{slot_of, first_id, round_up}
@@ -19,10 +20,10 @@ use Rattle.page.specs.Word.{word_bytes}
 use Rattle.page.specs.Bytes.{overwrite}
 use Rattle.page.specs.Slots.{slot_bytes, put_slot}
 use Rattle.page.specs.Layout.{encode_page, whole_page, page_length, AllGood, Good}
-use Rattle.page.proofs.Kit.{facts, same_slot, pages_le, round_first, both}
+use Rattle.page.proofs.Kit.{facts, same_slot, round_first, both}
 use Rattle.page.proofs.Words.{length_word_bytes}
 use Rattle.page.proofs.Overwrites.{length_overwrite}
-use Rattle.page.proofs.Headers.{take_replicate, blank_header}
+use Rattle.page.proofs.Headers.{blank_header}
 use Rattle.page.proofs.Slots.{length_put, put_same, put_other, header_slots}
 use Rattle.page.proofs.Pages.{length_whole_page, begins_header, begins_whole}
 use Rattle.engine_state.specs.Log.{Setup, State}
@@ -49,8 +50,8 @@ in_volume : (j n : ℕ) {p : ℕ} → 0 < p → ltb (n * p) (j * p + p) ≡ not 
 in_volume j n {p} h = go (dec_lt j n)
   where
     go : Dec (j < n) → ltb (n * p) (j * p + p) ≡ not (ltb j n)
-    go (yes l) = rw (lt-ltb j n l) (le-ltb (n * p) (j * p + p) (omega (arith, pages_le {k = j + 1} {j = n} p (omega arith))))
-    go (no l) = let u : n ≤ j = omega arith in rw (le-ltb j n u) (lt-ltb (n * p) (j * p + p) (omega (arith, pages_le p u)))
+    go (yes l) = rw (lt-ltb j n l) (le-ltb (n * p) (j * p + p) (omega (arith, mul-le-mul_right {m = j + 1} {n = n} p (omega arith))))
+    go (no l) = let u : n ≤ j = omega arith in rw (le-ltb j n u) (lt-ltb (n * p) (j * p + p) (omega (arith, mul-le-mul_right p u)))
 
 -- the log may open a page exactly where the book allows it
 pub may_allowed : (g : Setup) → Sized g → (j : ℕ) → may_open g (first_id g.p j) ≡ allowed g j
@@ -130,7 +131,7 @@ buffered_zero g z = record { page_length_lem = length-replicate g.p 0; appends =
     begins w p h =
         let z : 0 * p ≡ 0 = omega arith in
         let l : w + 0 ≡ w = omega arith in
-        rw (append-nil, l, z, zero_word w) (take_replicate w p 0 h)
+        rw (append-nil, l, z, zero_word w) (take-replicate w p 0 h)
 
 -- a call that brings no data and ends nothing tells the book no more than an erase request's slot
 pub recorded_call : (g : Setup) (b : Book) (c : Call) → append_data c ≡ none → (t : Told) → t.ended ≡ unended
@@ -267,7 +268,7 @@ module _ {g : Setup} {volume : List ℕ} {b : Book} (bk : Books g volume b) wher
 -- one slot of the volume was written
 module _ {g : Setup} {volume : List ℕ} {b : Book} (bk : Books g volume b) (s : ℕ) (h : s < g.n) (page : List ℕ) (long : length page ≡ g.p) where
   put_is : in_slot g.p s page volume ≡ put_slot g.p s page volume
-  put_is = in_slot_lem g.p s page volume (le-leb (s * g.p + g.p) (length volume) (omega (arith, bk.whole, pages_le g.p h))) long
+  put_is = in_slot_lem g.p s page volume (le-leb (s * g.p + g.p) (length volume) (omega (arith, bk.whole, mul-le-mul_right g.p h))) long
 
   -- the volume after it
   abbrev after : List ℕ

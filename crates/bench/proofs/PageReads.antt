@@ -8,6 +8,7 @@ use native.Mathlib.Nat.{mod-lt}
 use lib.ListN.{length, get_or, take, drop, replicate, take-append-drop, length-replicate, replicate-append-replicate}
 use lib.Seq.{get_or-take, get_or-drop, get_or_at, drop-drop, drop_at}
 use borrow.Author.Tests.{le-ltb, lt-ltb, eq-eqb, ne_eqb}
+use Rattle.std.proofs.lemmas.List.{take-replicate}
 use Rattle.page.specs.Bytes.{pad_byte}
 use Rattle.page.specs.Id.{slot_of}
 use Rattle.page.specs.Word.{le, word_at}
@@ -19,7 +20,7 @@ use Rattle.page.proofs.Kit.{Facts, facts, page_of_lem, rest_of, slot_of_lem}
 use Rattle.page.proofs.Slots.{length_slot}
 use Rattle.page.proofs.Overwrites.{window_left}
 use Rattle.page.proofs.Walks.{stop_pad}
-use Rattle.page.proofs.Headers.{take_replicate, le_ones}
+use Rattle.page.proofs.Headers.{le_ones}
 use Rattle.page.proofs.Pages.{length_encode_page, encode_all_append, entries_length_append, entry_word, entry_data, entry_goes, good_small}
 use Rattle.page_lookup.proofs.Helds.{holder_buffer, holder_volume, first_byte_at}
 use Rattle.engine_state.specs.Log.{Log}
@@ -60,7 +61,7 @@ blank_word w p h =
     let e : w + (p - w) ≡ p = omega arith in
     let s = replicate-append-replicate w (p - w) pad_byte ∙ ap (λ i. replicate i pad_byte) e in
     let rest = drop_at (replicate w pad_byte) (replicate (p - w) pad_byte) w (length-replicate w pad_byte) in
-    rw (← s, rest, take_replicate w (p - w) pad_byte (omega arith)) (le_ones w)
+    rw (← s, rest, take-replicate w (p - w) pad_byte (omega arith)) (le_ones w)
 
 module _ {l : Log} {x : Lent} (q : Reader l x) where
   abbrev w : ℕ

@@ -7,7 +7,7 @@ use mathlib.Core.Logic.{inl, inr}
 use mathlib.Core.Option.{Option, none, some}
 use native.Mathlib.Omega.{arith}
 use native.Mathlib.Decide.{dec_lt, ℕ_discrete}
-use native.Mathlib.Nat.{mod-lt}
+use native.Mathlib.Nat.{mod-lt, mul-le-mul_right}
 use lib.ListN.{take}
 use borrow.Author.Tests.{eq-eqb, ne_eqb}
 use Rattle.page.specs.Id.{slot_of}
@@ -15,7 +15,7 @@ use Rattle.page.specs.Slots.{slot_bytes}
 use Rattle.page.specs.Layout.{page_length, whole_page}
 use Rattle.page.specs.Header.{Extent}
 use Rattle.page.specs.Answered.{FAIL}
-use Rattle.page.proofs.Kit.{Facts, facts, pages_le}
+use Rattle.page.proofs.Kit.{Facts, facts}
 use Rattle.page.proofs.Pages.{begins_whole}
 use Rattle.engine_state.specs.Log.{Setup, Log}
 use Rattle.engine_state.proofs.Checks.{state_fits_lem}
@@ -110,7 +110,7 @@ module _ {x : World} {b : Book} (q : Recovers x.log.setup x b) (client : x.log.r
   shows_old m u = shows_volume reader m (λ e. omega (arith, u, e, open_page_is))
 
   old_below : (m : ℕ) → m < k.number → m * p + p ≤ l.append
-  old_below m u = omega (arith, ends_at, pages_le {k = m + 1} {j = k.number} p (omega arith))
+  old_below m u = omega (arith, ends_at, mul-le-mul_right {m = m + 1} {n = k.number} p (omega arith))
 
   -- a page that the book has
   module _ (m : ℕ) (h : Has g b.slots m) where

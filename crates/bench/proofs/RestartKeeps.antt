@@ -7,7 +7,7 @@ use mathlib.Core.Logic.{inl}
 use mathlib.Core.Option.{Option, none, some}
 use native.Mathlib.Omega.{arith}
 use native.Mathlib.Decide.{dec_lt}
-use native.Mathlib.Nat.{mod-lt, add-mod_right, mul-mod_left, mul-div_cancel}
+use native.Mathlib.Nat.{mod-lt, add-mod_right, mul-mod_left, mul-div_cancel, mul-le-mul_right}
 use lib.ListN.{length}
 use lib.Dec.{ltb}
 use borrow.Author.Tests.{ltb-true, lt-ltb, eqb-true, eqb-false}
@@ -18,7 +18,7 @@ use Rattle.page.specs.Slots.{slot_bytes}
 use Rattle.page.specs.Header.{valid_ids, Extent}
 use Rattle.page.specs.Layout.{whole_page, page_length, AllGood}
 use Rattle.page.specs.Walk.{walked}
-use Rattle.page.proofs.Kit.{Facts, facts, both, pages_le, round_first}
+use Rattle.page.proofs.Kit.{Facts, facts, both, round_first}
 use Rattle.page.proofs.Pages.{walked_page}
 use Rattle.engine_state.specs.Log.{Setup, Idle, Log}
 use Rattle.engine_state.specs.Check.{shape_fits, state_fits}
@@ -41,7 +41,7 @@ allowed_below : (g : Setup) {j k : ℕ} → j ≤ k → allowed g k ≡ true →
 allowed_below g {j} {k} h e =
     let t = both (g.circular || ltb k g.n) (ltb (k * g.p) (ceiling g.w)) e in
     let l = ltb-true (k * g.p) (ceiling g.w) t.1 in
-    rw (lt-ltb (j * g.p) (ceiling g.w) (omega (arith, pages_le g.p h)), go g.circular t.0)
+    rw (lt-ltb (j * g.p) (ceiling g.w) (omega (arith, mul-le-mul_right g.p h)), go g.circular t.0)
   where
     go : (c : Bool) → (c || ltb k g.n) ≡ true → (c || ltb j g.n) ≡ true
     go true q = refl

@@ -3,10 +3,10 @@ use Prim.Native.Nat.{◌+◌, ◌%◌, ◌<◌}
 use mathlib.Core.Path.{◌≡◌, refl, ◌∙◌}
 use mathlib.Core.Bool.{Bool}
 use mathlib.Core.Logic.{inr}
-use native.Mathlib.Nat.{mod-eq_of_lt}
+use native.Mathlib.Nat.{mod-eq_of_lt, add-mod_right}
 use native.Mathlib.Omega.{arith}
 use borrow.Author.Tests.{leb-false}
-use Rattle.page.proofs.Kit.{facts, same_rest}
+use Rattle.page.proofs.Kit.{facts}
 use Rattle.engine_state.specs.Log.{Idle, Erase, Log}
 use Rattle.engine_state.specs.Check.{Sized, kept_fits}
 use Rattle.engine_state.proofs.Checks.{StateFits}
@@ -37,7 +37,7 @@ erase_fits l z s x good word =
         }
 
     later : l.oldest + l.setup.p < l.append → OldestFits l (l.oldest + l.setup.p)
-    later b = record { headed = omega (arith, s.headed); ordered = omega arith; first = same_rest l.oldest l.setup.p ∙ s.first }
+    later b = record { headed = omega (arith, s.headed); ordered = omega arith; first = add-mod_right l.oldest l.setup.p ∙ s.first }
 
     next : OldestFits l (l.oldest + l.setup.p) → (word : Word) → LeavesState (erases_next l x word)
     next o ok = moved_fits s Erase o l.read l.kept s.read_limited s.kept_most refl

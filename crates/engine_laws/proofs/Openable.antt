@@ -5,11 +5,12 @@ use mathlib.Core.Bool.{Bool, true, false, not, ◌&&◌, ◌||◌}
 use mathlib.Core.Logic.{◌⊎◌, inl, inr}
 use mathlib.Core.Option.{none}
 use native.Mathlib.Omega.{arith}
+use native.Mathlib.Nat.{mul-le-mul_right}
 use lib.Dec.{ltb, leb, eqb}
 use borrow.Author.Tests.{ltb-false, leb-false, eqb-true, le-ltb, lt-leb}
 use Rattle.page.specs.Sizes.{ceiling}
 use Rattle.page.specs.Id.{round_up}
-use Rattle.page.proofs.Kit.{facts, parts, pages_le, pages_lt}
+use Rattle.page.proofs.Kit.{facts, parts, pages_lt}
 use Rattle.engine_state.specs.Log.{Setup, Log}
 use Rattle.engine_state.specs.Check.{Sized}
 use Rattle.engine_state.specs.Open.{may_open}
@@ -43,11 +44,11 @@ page_inside : (n a k w : ℕ) {p : ℕ} → 0 < p → 0 < k → (a % p ≡ 0) �
 page_inside n a k w {p} h s (inl e) i =
     let d = parts a h in
     let z : a / p < n = pages_lt (a / p) n p {x = a} (omega arith) (omega arith) in
-    omega (arith, pages_le {k = a / p + 1} {j = n} p (omega arith))
+    omega (arith, mul-le-mul_right {m = a / p + 1} {n = n} p (omega arith))
 page_inside n a k w {p} h s (inr e) i =
     let d = parts a h in
     let z : a / p + 1 < n = pages_lt (a / p + 1) n p {x = a / p * p + p} (omega arith) (omega arith) in
-    omega (arith, pages_le {k = a / p + 2} {j = n} p (omega arith))
+    omega (arith, mul-le-mul_right {m = a / p + 2} {n = n} p (omega arith))
 
 -- an append that passes its checks and doesn't fit in the page is one whose next page may be opened
 pub append_may : (l : Log) (room n : ℕ) → Sized l.setup → first_of (append_checks l room n) ≡ none → fits_page l n ≡ false

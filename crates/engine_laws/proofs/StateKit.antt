@@ -6,12 +6,13 @@ use mathlib.Core.List.{List}
 use mathlib.Core.Logic.{◌⊎◌, inl, inr}
 use native.Mathlib.Decide.{dec_lt}
 use native.Mathlib.Omega.{arith}
+use native.Mathlib.Nat.{add-mod_right, mul-le-mul_right}
 use lib.ListN.{length}
 use lib.Dec.{eqb}
 use borrow.Author.Tests.{eqb-true}
 use Rattle.page.specs.Sizes.{ceiling}
 use Rattle.page.specs.Overwritten.{overwritten}
-use Rattle.page.proofs.Kit.{facts, parts, page_mono, pages_le, pages_lt, same_rest, overwritten_lap, overwritten_none}
+use Rattle.page.proofs.Kit.{facts, parts, page_mono, pages_lt, overwritten_lap, overwritten_none}
 use Rattle.engine_state.specs.Log.{State, Log}
 use Rattle.engine_state.specs.Check.{Sized, kept_fits}
 use Rattle.engine_state.proofs.Checks.{StateFits, offset_in}
@@ -29,8 +30,8 @@ past_last : (a : ℕ) {p w : ℕ} → 0 < p → w ≤ p → 0 < a → (a % p ≡
 past_last a {p} {w} h l s (inl e) =
     let d = parts a h in
     let b = parts (a - 1) h in
-    omega (arith, pages_le p (pages_lt ((a - 1) / p) (a / p) p {x = a - 1} (omega arith) (omega arith)))
-past_last a {p} {w} h l s (inr e) = omega (arith, parts a h, pages_le p (page_mono {x = a - 1} {y = a} h (omega arith)))
+    omega (arith, mul-le-mul_right p (pages_lt ((a - 1) / p) (a / p) p {x = a - 1} (omega arith) (omega arith)))
+past_last a {p} {w} h l s (inr e) = omega (arith, parts a h, mul-le-mul_right p (page_mono {x = a - 1} {y = a} h (omega arith)))
 
 -- where the overwritten page holds an ID up to the ceiling, the next page's first entry stands up to A
 overwritten_below : (l : Log) → Sized l.setup → StateFits l → (x : ℕ) → x ≤ ceiling l.setup.w → x / l.setup.p ≡ overwritten_page l
@@ -50,7 +51,7 @@ overwritten_below l z s x c e = go (dec_lt q l.setup.n)
         let f = facts z in
         let d = parts (l.append - 1) f.page in
         let lap : overwritten l.setup.w p (l.setup.n * p) q ≡ q - l.setup.n = overwritten_lap z q (omega arith) (omega (arith, s.limited)) in
-        let next : (x / p + 1) * p ≤ q * p = pages_le p (omega arith) in
+        let next : (x / p + 1) * p ≤ q * p = mul-le-mul_right p (omega arith) in
         omega (arith, past_last l.append {p = p} {w = l.setup.w} f.page (omega arith) (omega (arith, s)) s.offset)
 
 -- an O that STATE lets through
@@ -91,7 +92,7 @@ oldest_moves l z s = by_pick (OldestFits l) (eqb (l.oldest / l.setup.p) (overwri
         record {
           headed = omega (arith, s.headed);
           ordered = omega (arith, s.first, overwritten_below l z s l.oldest (omega (arith, s)) (eqb-true _ _ e));
-          first = same_rest l.oldest l.setup.p ∙ s.first;
+          first = add-mod_right l.oldest l.setup.p ∙ s.first;
         }
 
 -- and R up to the ceiling
