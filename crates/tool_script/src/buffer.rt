@@ -1,12 +1,11 @@
 // A buffer of fixed size.
-ghost use Rattle.std.specs.Prelude.{◌≡◌, ◌<◌, ◌≤◌, ◌↔◌, ℕ, List, All, ◌++◌, length, take, replicate, IsSome, OnSome, IfNone};
+ghost use Rattle.std.specs.Prelude.{◌≡◌, ◌<◌, ◌≤◌, ◌↔◌, ℕ, List, All, length, take, replicate, IsSome, OnSome, IfNone};
 ghost use Rattle.tool_script.specs.Words.{IsBytes, bytes_word};
 
 use crate::text;
-use page::bytes;
-use std::fmt;
 
-// An array with how much of its front is in use: a Vec would allocate.
+// An array with how much of its front is in use: a Vec would allocate. The library's `ArrayVec` lends for writing no byte that is not in use, so that
+// `read` and `fill` would push one at a time, and it writes over each byte that `clear` takes out.
 #[derive(Drop)]
 pub struct Buffer<const SIZE: usize> {
     bytes: [u8; SIZE],
@@ -71,19 +70,5 @@ impl<const SIZE: usize> Buffer<SIZE> {
     {
         self.len = text::bytes(word, &mut self.bytes)?;
         Some(())
-    }
-}
-
-// Text goes to the end of the part that is in use.
-impl<const SIZE: usize> fmt::Write for Buffer<SIZE> {
-    ghost write_str_gives = { λ old s new. take new.len new.bytes ≡ take old.len old.bytes ++ s };
-
-    fn write_str(&mut self, s: &str) -> fmt::Result {
-        if SIZE - self.len < s.len() {
-            return Err(fmt::Error);
-        }
-        bytes::copy_in(&mut self.bytes, self.len, s.as_bytes());
-        self.len += s.len();
-        Ok(())
     }
 }
