@@ -1,4 +1,4 @@
-// The calls, on a block.
+// The calls, on a block. What is lent stays parameters, for the reason at engine_call's ReadyLog.
 ghost use Rattle.std.specs.Prelude.{◌≡◌};
 ghost use Rattle.std.proofs.Math.ListN as lists;
 ghost use Rattle.engine_call.specs.Outcome.{Lent, lend};

@@ -1,4 +1,4 @@
-// Restart, on a block.
+// Restart, on a block. What is lent stays parameters, for the reason at engine_call's ReadyLog.
 ghost use Rattle.std.specs.Prelude.{◌≡◌};
 ghost use Rattle.engine_call.specs.Outcome.{lend};
 ghost use Rattle.punelovash_block.specs.Block.{is_set, setup_from};
@@ -11,7 +11,7 @@ use engine_restart::restart;
 use engine_state::answer::Answer;
 use engine_state::state::{Clients, Geometry, Setup};
 
-// Restarts the log on a volume. Flags are 0 or not. The numbers are C's parameters, as it passes them.
+// Restarts the log on a volume. Flags are 0 or not. The numbers and flags are C's parameters, as it passes them.
 pub fn restart<W: Word>(
     block: &mut [u8],
     page_size: u32,

@@ -9,7 +9,7 @@ use engine_restart::survey;
 use engine_state::answer::Answer;
 use engine_state::state::Geometry;
 
-// Writes the valid page IDs in rising order to `ids`, and their count to `count`.
+// Writes the valid page IDs in rising order to `ids`, and their count to `count`. The numbers are C's parameters, as it passes them.
 pub fn survey<W: Word>(
     page_size: u32,
     page_count: u32,

@@ -36,7 +36,7 @@ pub enum Name {
 }
 
 impl Name {
-    // The word, as it is read and printed.
+    // The word, as it is read and printed: a function, since both go by it.
     #[inline(always)]
     fn word(self) -> &'static str
         ensures { result.now ≡ name_word self }

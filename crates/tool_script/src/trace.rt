@@ -32,7 +32,7 @@ impl<'a, P: Print> Trace<'a, P> {
         }
     }
 
-    // A line. `println!` would write it in pieces of 1,024 bytes, which takes twice as long where pages have 4,096.
+    // A line. `println!` would write it in pieces of 1,024 bytes, which takes nearly twice as long through a pipe where pages have 4,096.
     pub fn line<D: Display + Drop>(&mut self, line: D) -> io::Result<()>
         ensures { IfOk result (λ done. (text : List ℕ) → D.output line ≡ Some text
             → self.new.line.bytes ≡ text ++ 10 ∷ []) }
