@@ -60,8 +60,6 @@ pub struct Bench {
     page: *const [u8],
     buffer: *const [u8],
     under_way: UnderWay,
-    /// From the request of an erase to its report. Where the driver refused, nothing is under way meanwhile.
-    erasing: bool,
 }
 
 impl Bench {
@@ -84,7 +82,6 @@ impl Bench {
             page,
             buffer: page,
             under_way: UnderWay::Nothing,
-            erasing: false,
         }
     }
 
@@ -145,7 +142,6 @@ impl Bench {
     fn forget(&mut self) {
         self.log = None;
         self.under_way = UnderWay::Nothing;
-        self.erasing = false;
         deferred_call::take_due();
         self.driver.page.take();
         self.driver.request.take();
@@ -158,13 +154,6 @@ impl Bench {
         let Some(log) = self.log.take() else {
             return not_delivered(out, name);
         };
-        if matches!(call, Call::EraseComplete { .. })
-            && self.erasing
-            && !matches!(self.under_way, UnderWay::Erase(_))
-        {
-            self.log = Some(log);
-            return not_delivered(out, name);
-        }
         let answer = catch_unwind(AssertUnwindSafe(|| self.make(&log, call))).ok();
         if answer.is_some() {
             self.log = Some(log);
@@ -278,21 +267,8 @@ impl Bench {
 
     /// Starts the operation that the call asked for, if the driver accepted it.
     fn start(&mut self) {
-        let request = self.driver.request.get();
-        if let Some(Request::Erase(_)) = request {
-            self.erasing = true;
-        }
-        if self
-            .clients
-            .reports
-            .borrow()
-            .iter()
-            .any(|report| report.starts_with("erase_done"))
-        {
-            self.erasing = false;
-        }
         if self.driver.word.get() == Word::Ok {
-            match request {
+            match self.driver.request.get() {
                 Some(Request::Write(page_number)) => {
                     let page = self
                         .driver

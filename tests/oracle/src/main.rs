@@ -1,4 +1,4 @@
-//! Tock's `Log`, unchanged, behind the script and trace of the replay programs.
+//! Tock's `Log`, unchanged or altered, behind the script and trace of the replay programs.
 //!
 //!     oracle [--interactive] < SCRIPT > TRACE
 //!
@@ -8,7 +8,8 @@ mod bench;
 mod flash;
 mod lent;
 #[rustfmt::skip] // not ours to format
-#[path = "../../../target/oracle/log.rs"]
+#[cfg_attr(feature = "altered", path = "../../../target/oracle/altered.rs")]
+#[cfg_attr(not(feature = "altered"), path = "../../../target/oracle/log.rs")]
 mod log;
 mod memory;
 mod script;
