@@ -62,12 +62,12 @@ def nearest(ids, wanted):
     return min(ids, key=lambda id: abs(id - wanted))
 
 
-def shrink(oracle, program, difference):
+def shrink(oracles, program, difference):
     """The shortest script found, within the domain, by dropping lines and then by plainer ones, while a difference of the same kind remains."""
 
     def attempt(lines):
         try:
-            script = within_domain(oracle, lines)
+            script = within_domain(oracles.of(lines), lines)
         except Stopped:
             return None
         found = script and (against_book(*script, Counter()) if difference.book else compare(program, *script))

@@ -1,8 +1,9 @@
-"""What a run has met: calls, answers, reports, pages written, laps, cuts and restarts."""
+"""What a run has met: calls, answers, reports, refused erases, pages written, laps, cuts and restarts."""
 
 from collections import Counter
 
-from .flash import LEFT, Flash
+from .flash import LEFT, Flash, erase_refused
+from .oracles import turned_down
 from .sizes import Sizes
 from .trace import parse
 
@@ -19,11 +20,17 @@ REPORTS = [
     "erase_done OK", "erase_done BUSY", "erase_done FAIL", "read_done OK", "seek_done OK",
 ]
 
-# Of cuts and restarts: where they fall (in a write or erase, in neither, with the power off) and what they leave.
+# Where the driver refused an erase, by the call that asked for it; and with which word.
+PLACES = {"erase": "at the start", "erase_complete": "in the middle"}
+REFUSALS = [f"{word} {place}" for place in PLACES.values() for word in ("BUSY", "FAIL")]
+
+# Of cuts and restarts: where they fall (in a write or erase, in neither, with the power off) and what they leave; and those straight after an erase
+# that the driver refused.
 CUTS = [
     *[f"{what} in {kind} {left}" for what in ("cut", "restart") for kind in LEFT for left in LEFT[kind]],
     *[f"cut in neither {left}" for left in LEFT["write"]], "cut with the power off",
     "restart in neither", "restart with the power off",
+    *[f"{what} after an erase refused {place}" for what in ("cut", "restart") for place in PLACES.values()],
 ]
 # Of the lists that the page book speaks of: their calls; restarts, entries read after them and ends of reading that were held to it; restarts where
 # a page is missing between two others.
@@ -42,7 +49,9 @@ class Counts:
         self.answers = Counter()  # by call and number
         self.reports = Counter()
         self.gets = 0
+        self.altered = 0  # of the calls, those that the altered oracle made
         self.undelivered = Counter()  # by call
+        self.refusals = Counter()  # of erases by the driver
         self.cuts = Counter()  # cuts, and restarts but the first, by where they fall and what they leave
         self.book = Counter()  # of the lists that the page book speaks of
         self.written = 0
@@ -50,14 +59,25 @@ class Counts:
 
     def take(self, lines, trace, kind):
         """A script: its lines from `sizes` on, with a line of trace for each from the third."""
+        before = self.calls()
+        self.take_lines(lines, trace, kind)
+        self.altered += (self.calls() - before) * turned_down(lines)
+
+    def take_lines(self, lines, trace, kind):
         self.scripts[kind] += 1
         sizes = Sizes.parse(lines[0])
         flash = Flash(sizes.first)
-        lap = None
+        lap = refused = None  # where the driver refused an erase with the line before
         for line, text in zip(lines[2:], trace):
             step = parse(text)
-            if lap is not None and line.startswith(("cut", "restart")):
+            words = line.split(" ")
+            if lap is not None and words[0] in ("cut", "restart"):
                 self.cuts[cut_name(line, flash)] += 1
+                if refused:
+                    self.cuts[f"{words[0]} after an erase refused {refused}"] += 1
+            refused = PLACES[words[0]] if erase_refused(line, step) else None
+            if refused:
+                self.refusals[f"{words[-1].upper()} {refused}"] += 1
             ended = flash.take(line, step)
             self.written += ended is not None and ended.left == "new"
             if step is None:
@@ -83,7 +103,9 @@ class Counts:
         self.answers += other.answers
         self.reports += other.reports
         self.gets += other.gets
+        self.altered += other.altered
         self.undelivered += other.undelivered
+        self.refusals += other.refusals
         self.cuts += other.cuts
         self.book += other.book
         self.written += other.written
@@ -96,7 +118,8 @@ class Counts:
     def missing(self):
         """What should have been met and was not."""
         answers = [f"{call} {number}" for call, numbers in ANSWERS.items() for number in numbers if not self.answers[call, number]]
-        return answers + [report for report in REPORTS if not self.reports[report]]
+        refusals = [f"an erase refused by {refusal}" for refusal in REFUSALS if not self.refusals[refusal]]
+        return answers + [report for report in REPORTS if not self.reports[report]] + refusals
 
     def missing_cuts(self):
         """The same of lists with cuts."""
@@ -111,9 +134,11 @@ class Counts:
         calls["get"] = self.gets
         return "; ".join([
             f"{self.calls()} calls in {self.scripts.total()} scripts",
+            f"with the altered oracle: {self.altered}",
             "calls: " + listed(sorted(calls.items(), key=lambda item: -item[1])),
             "answers: " + listed(sorted(numbers.items())),
             "reports: " + listed(sorted(self.reports.items())),
+            "erases refused by the driver: " + (listed((name, self.refusals[name]) for name in REFUSALS if self.refusals[name]) or "none"),
             f"not delivered: {self.undelivered.total()}",
             f"pages written: {self.written}",
             f"laps: {self.laps}",

@@ -4,7 +4,7 @@ import random
 
 from . import volumes
 from .book import applies, clear
-from .flash import LEFT
+from .flash import LEFT, erase_refused
 from .lists import CALLS, Script, Writer, any_sizes, buffer, steps
 from .sizes import Sizes
 from .trace import OK, parse
@@ -15,11 +15,11 @@ WITH_BOOK = 0.75  # of the lists
 class CutWriter(Writer):
     """Writes one script with cuts and restarts."""
 
-    def __init__(self, rng, oracle, sizes, volume, with_book):
+    def __init__(self, rng, oracles, sizes, volume, with_book):
         self.with_book = with_book
         self.during = rng.choice([0.02, 0.1, 0.3])  # how often an operation is cut, or a restart falls in it
         self.between = rng.choice([0, 0.01, 0.05])  # the same where nothing is under way
-        super().__init__(rng, oracle, sizes, volume, buffer(rng, sizes), buffer(rng, sizes))
+        super().__init__(rng, oracles, sizes, volume, buffer(rng, sizes), buffer(rng, sizes))
 
     def step(self):
         if self.state.flash.off:
@@ -43,10 +43,11 @@ class CutWriter(Writer):
         return refused or step.report in ("append_done 0 0 1", "sync_done 1")
 
     def chance(self):
-        """Of a cut or restart as the next step."""
-        if self.state.erasing:
-            return max(self.during, 0.1)
-        return self.during if self.state.under_way else self.between
+        """Of a cut or restart as the next step: more in an erase, and where the driver has just refused one."""
+        operation = self.state.under_way
+        if operation:
+            return max(self.during, 0.1) if operation.kind == "erase" else self.during
+        return max(self.between, 0.2) if erase_refused(self.lines[-1], parse(self.trace[-1])) else self.between
 
     def without_power(self):
         """Mostly a restart; else what is not delivered."""
@@ -118,8 +119,8 @@ def sizes_for_cuts(rng, width):
     return sizes
 
 
-def write_script(rng, oracle, sizes, kind, volume, with_book):
-    writer = CutWriter(rng, oracle, sizes, volume, with_book)
+def write_script(rng, oracles, sizes, kind, volume, with_book):
+    writer = CutWriter(rng, oracles, sizes, volume, with_book)
     for _ in steps(rng, sizes):
         writer.step()
         if writer.lost():
@@ -127,10 +128,10 @@ def write_script(rng, oracle, sizes, kind, volume, with_book):
     return Script(*writer.end(), kind)
 
 
-def script(seed, oracle, width):
+def script(seed, oracles, width):
     """The script of a seed."""
     rng = random.Random(f"cuts:{seed}")
     sizes = sizes_for_cuts(rng, width)
     with_book = rng.random() < WITH_BOOK
     kind, volume = (volumes.any_headless if with_book else volumes.any_volume)(rng, sizes)
-    return write_script(rng, oracle, sizes, kind, volume, with_book)
+    return write_script(rng, oracles, sizes, kind, volume, with_book)

@@ -51,7 +51,6 @@ class Tracker:
         assert len(self.volume) == sizes.length
         self.flash = Flash(sizes.first)
         self.deferred = False  # a deferred call is due
-        self.erasing = False  # from an erase's request to its report; where the driver refused, with nothing under way
         self.handed_out = {}  # the IDs since the last restart or finished erase, as keys, in their order
         self.O = self.R = self.A = 0
         self.page = ""
@@ -68,11 +67,7 @@ class Tracker:
         return self.flash.under_way
 
     def idle(self):
-        return not (self.under_way or self.deferred or self.erasing)
-
-    def stuck(self):
-        """The driver refused an erase: nothing but a restart ends that."""
-        return self.erasing and not self.under_way
+        return not (self.under_way or self.deferred)
 
     def allows(self, line):
         """Whether a line of a script may come now. With the power off any may: nothing but a restart is delivered."""
@@ -120,8 +115,7 @@ class Tracker:
         return self.under_way is not None and self.under_way.kind == "write"
 
     def allows_erase_complete(self, words):
-        """Where the driver refused, the completion is not delivered to either side."""
-        return self.stuck() or (self.under_way is not None and self.under_way.kind == "erase")
+        return self.under_way is not None and self.under_way.kind == "erase"
 
     def byte(self, position):
         """The byte at a position of the log: the page buffer has the page of the last byte appended."""
@@ -159,18 +153,13 @@ class Tracker:
             self.volume = self.volume_after(ended)
         name = line.split(" ", 1)[0]
         if name in ("cut", "restart"):
-            self.deferred, self.erasing = False, False
+            self.deferred = False
         if step is None:
             return
-        if step.request.startswith("erase"):
-            self.erasing = True
         if name in ("read", "seek") and step.answer == 0:
             self.deferred = True
-        report = step.report.split(" ", 1)[0]
-        if report in ("read_done", "seek_done"):
+        if step.report.startswith(("read_done", "seek_done")):
             self.deferred = False
-        elif report == "erase_done":
-            self.erasing = False
         self.O, self.R, self.A, self.page = step.O, step.R, step.A, step.page
         if name == "restart" or step.report == "erase_done 0":
             self.handed_out = {}

@@ -23,6 +23,7 @@ def letters(width):
         f"read {most} {'00' * most}",
         "seek start",  # stands for O at that moment
         "erase ok",
+        "erase fail",
         "deferred",
         "write_complete ok new",
         "write_complete fail blank",
@@ -68,31 +69,34 @@ def tasks(width):
     return [(b, first) for b in range(len(list(beginnings(width)))) for first in letters(width)]
 
 
-def every(oracle, task, width):
+def every(oracles, task, width):
     """The longest lists of a task, each with the oracle's trace: every shorter one is the front of one of these."""
     which, first = task
     sizes, volume = list(beginnings(width))[which]
     head = [sizes.line(), volume_line(volume), "restart 1 1 = ="]
-    trace = oracle.ask("\n".join(head) + "\n")
     state = Tracker(sizes, volume)
-    state.update(head[2], parse(trace[0]))
-    yield from longer(oracle, head, trace, state, [first])
+    state.update(head[2], parse(traced(oracles, head)[0]))
+    yield from longer(oracles, head, state, [first])
 
 
-def longer(oracle, lines, trace, state, firsts):
+def traced(oracles, lines):
+    """A list's trace, from the oracle that it is for."""
+    return oracles.of(lines).ask("\n".join(lines) + "\n", len(lines) - 2)
+
+
+def longer(oracles, lines, state, firsts):
     """The lists that go on from here, the next call one of `firsts`."""
     if len(lines) - 3 == DEPTH:
-        yield lines + ["volume"], oracle.ask("\n".join(lines) + "\nvolume\n", len(trace) + 1)
+        yield lines + ["volume"], traced(oracles, lines + ["volume"])
         return
     for letter in firsts:
         line = f"seek {state.O}" if letter == "seek start" else letter
         if not state.allows(line) or (line == "deferred" and not state.deferred):
             continue
         more = lines + [line]
-        answers = oracle.ask("\n".join(more) + "\n", len(trace) + 1)
-        step = parse(answers[-1])
-        if line.endswith("busy") and step.request == "-":
+        step = parse(traced(oracles, more)[-1])
+        if line.endswith(("busy", "fail")) and step.request == "-":
             continue
         after = state.copy()
         after.update(line, step)
-        yield from longer(oracle, more, answers, after, letters(state.sizes.width))
+        yield from longer(oracles, more, after, letters(state.sizes.width))

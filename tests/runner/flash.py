@@ -46,6 +46,11 @@ class Flash:
         return operation and Ended(*operation, left)
 
 
+def erase_refused(line, step):
+    """Whether a line asked the driver for an erase and was refused, by its trace."""
+    return step is not None and step.request.startswith("erase") and not line.endswith(" ok")
+
+
 def left_at_restart(line):
     """What a restart's line says of the operation under way; None where it says nothing."""
     words = line.split(" ")

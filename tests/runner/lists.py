@@ -5,6 +5,7 @@ from collections import namedtuple
 
 from . import volumes
 from .domain import Tracker
+from .oracles import turned_down
 from .sides import Stopped
 from .sizes import Sizes
 from .trace import parse
@@ -28,9 +29,11 @@ HABITS = [
 class Writer:
     """Writes one script while the oracle runs it."""
 
-    def __init__(self, rng, oracle, sizes, volume, page, hold):
+    def __init__(self, rng, oracles, sizes, volume, page, hold):
         self.rng = rng
-        self.oracle = oracle
+        self.turns_down = rng.random() < 0.5  # whether the driver may turn an erase down so that the list is for the altered oracle
+        self.oracles = oracles
+        self.oracle = oracles.altered if self.turns_down else oracles.unchanged
         self.sizes = sizes
         self.P = sizes.page_size
         self.state = Tracker(sizes, volume)
@@ -67,8 +70,6 @@ class Writer:
             self.add(self.completion())
         elif state.deferred and rng.random() < 0.8:
             self.add("deferred")
-        elif state.stuck() and rng.random() < 0.2:
-            self.add("erase_complete ok blank ok")
         else:
             self.add(getattr(self, rng.choices(CALLS, self.habit)[0])())
 
@@ -76,19 +77,21 @@ class Writer:
         self.add("get")
         self.add("volume")
         assert self.trace[-1] == "volume " + hex_of(self.state.volume), "the runner lost track of the volume"
+        if self.turns_down and not turned_down(self.lines):
+            self.trace = self.oracles.trace(self.lines)  # the driver might have, and never did
         return self.lines, self.trace
 
-    def word(self):
-        if self.rng.random() >= self.refusals:
-            return "ok"
-        return self.rng.choice(["busy", "fail"])
+    def word(self, refused=("busy", "fail")):
+        """The driver's: at times it refuses, by one of these."""
+        return self.rng.choice(refused) if self.rng.random() < self.refusals else "ok"
 
     def completion(self):
         failed = self.rng.random() < self.failures
         if self.state.under_way.kind == "write":
             return "write_complete fail " + self.rng.choice(["old", "blank", "new"]) if failed else "write_complete ok new"
         how = "fail " + self.rng.choice(["old", "blank"]) if failed else "ok blank"
-        return f"erase_complete {how} {self.word()}"
+        word = self.word() if self.turns_down else self.word(["busy"])
+        return f"erase_complete {how} {word}"
 
     def append(self):
         length = self.append_length()
@@ -135,7 +138,7 @@ class Writer:
         return "sync " + self.word()
 
     def erase(self):
-        return "erase " + self.word()
+        return "erase " + (self.word() if self.turns_down else "ok")
 
     def deferred(self):
         return "deferred"
@@ -172,22 +175,20 @@ def steps(rng, sizes):
     return range(rng.randint(10, 400 if sizes.page_size <= 512 else 80))
 
 
-def write_script(rng, oracle, sizes, kind, volume):
-    writer = Writer(rng, oracle, sizes, volume, buffer(rng, sizes), buffer(rng, sizes))
+def write_script(rng, oracles, sizes, kind, volume):
+    writer = Writer(rng, oracles, sizes, volume, buffer(rng, sizes), buffer(rng, sizes))
     for _ in steps(rng, sizes):
         writer.step()
-        if writer.state.stuck() and rng.random() < 0.1:
-            break
     lines, trace = writer.end()
     return Script(lines, trace, kind), bytes(writer.state.volume)
 
 
-def scripts(seed, oracle, width):
+def scripts(seed, oracles, width):
     """The scripts of a seed: one, and often a second on the volume that the first left."""
     rng = random.Random(seed)
     sizes = any_sizes(rng, width)
     kind, volume = volumes.any_volume(rng, sizes)
-    script, left = write_script(rng, oracle, sizes, kind, volume)
+    script, left = write_script(rng, oracles, sizes, kind, volume)
     yield script
     if rng.random() < 0.3 and volumes.admits_restart(left, sizes):
-        yield write_script(rng, oracle, sizes, "left", left)[0]
+        yield write_script(rng, oracles, sizes, "left", left)[0]

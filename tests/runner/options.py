@@ -1,4 +1,4 @@
-"""With which words a run goes, and between which programs: the options --width, --oracle and --replay."""
+"""With which words a run goes, and between which programs: the options --width, --oracle, --altered and --replay."""
 
 import argparse
 import os
@@ -16,25 +16,28 @@ def parse_options(parser):
     """The options chosen, once for each width."""
     parser.add_argument("--width", default="both", choices=[*map(str, WIDTHS), "both"], help="bytes of a word (default: both)")
     parser.add_argument("--oracle", help="another Rust oracle, for one width")
-    parser.add_argument("--replay", default=ROOT / "crates/replay/out/replay", help="the program that is compared with it")
+    parser.add_argument("--altered", help="another altered one, for one width")
+    parser.add_argument("--replay", default=ROOT / "crates/replay/out/replay", help="the program that is compared with them")
     chosen = parser.parse_args()
-    if chosen.oracle and chosen.width == "both":
+    if (chosen.oracle or chosen.altered) and chosen.width == "both":
         parser.error("an oracle is for one width: name that with --width")
     widths = WIDTHS if chosen.width == "both" else [int(chosen.width)]
     return [at_width(chosen, width) for width in widths]
 
 
 def at_width(chosen, width):
-    oracle = chosen.oracle or TARGET / f"oracle/{MACHINES[width]}-unknown-linux-gnu/release/oracle"
-    return argparse.Namespace(**vars(chosen) | {"width": width, "oracle": str(oracle), "replay": str(chosen.replay)})
+    built = TARGET / f"oracle/{MACHINES[width]}-unknown-linux-gnu/release"
+    paths = {"oracle": chosen.oracle or built / "oracle", "altered": chosen.altered or built / "oracle-altered", "replay": chosen.replay}
+    return argparse.Namespace(**vars(chosen) | {"width": width} | {name: str(path) for name, path in paths.items()})
 
 
 def is_there(path):
     return os.access(path, os.X_OK)
 
 
-def need_oracle(chosen):
-    need(chosen.oracle, "build it with tests/oracle/setup LOG.RS")
+def need_oracles(chosen):
+    for path in (chosen.oracle, chosen.altered):
+        need(path, "build it with tests/oracle/setup LOG.RS")
 
 
 def need_replay(chosen):

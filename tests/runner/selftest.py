@@ -1,17 +1,19 @@
-"""The runner's own check: that it can fail. Only the page book's part needs an implementation of the log."""
+"""The runner's own check: that it can fail. Only the parts on the oracles and on the page book need an implementation of the log."""
 
 import pathlib
+import subprocess
 import tempfile
 from collections import Counter
 
 from .book import Book, Page, disagreement, done
 from .compare import Difference, against_book, drop_lines, plainer
-from .counts import BOOK, CUTS, Counts
+from .counts import BOOK, CUTS, REFUSALS, Counts
 from .domain import Tracker, admits_restart
-from .kept import Kept, unmet
+from .kept import TESTS, Kept, unmet
+from .oracles import turned_down
 from .sides import Program
 from .sizes import WIDTHS, Sizes
-from .trace import first_difference, parse, same
+from .trace import BUSY, OK, first_difference, parse, same
 
 BOOK_LISTS = 500  # at most so many lists with cuts for the page book's part
 
@@ -194,6 +196,53 @@ def check_walk(failures, width):
     walk(False, ceiling - sizes.page_size, 2 * width, "07")  # opens the page at the ceiling
 
 
+ALTER = TESTS / "oracle/alter"
+# What `alter` looks for, in a file of our own.
+SOURCE = """\
+impl Door {
+    fn erase(door: &Door) -> Answer {
+        // erase_page asks for one page
+        door.knock();
+        door.erase_page()
+    }
+
+    fn erase_complete(door: &Door) {
+        // BUSY, say
+        let said = door.erase_page();
+        if said == No(Why::BUSY) {
+            door.tell(No(Why::BUSY));
+        }
+    }
+}
+"""
+ALTERED = SOURCE.replace("erase_page()\n    }", "erase_page().inspect_err(|_| _ = self.state.replace(State::Idle))\n    }").replace(
+    "said == No(Why::BUSY)", "said.is_err()").replace("tell(No(Why::BUSY))", "tell(said)")
+
+
+def check_alter(failures):
+    """That it alters two places, and neither where one of them is missing, there twice or of another form."""
+    with tempfile.TemporaryDirectory() as folder:
+        source, altered = pathlib.Path(folder, "source"), pathlib.Path(folder, "altered")
+
+        def alter(text):
+            source.write_text(text)
+            return subprocess.run([ALTER, source, altered], capture_output=True, text=True)
+
+        for old, new in (
+            ("fn erase(", "fn wipe("), ("impl", "fn erase() {\n}\nimpl"), ("        door.erase_page()\n", ""), ("door.knock()", "door.erase_page()"),
+            ("door.erase_page()\n", "door.erase_page();\n        door.knock()\n"), ("door.erase_page()\n", "!door.erase_page()\n"),
+            ("fn erase_complete(", "fn wiped("), ("impl", "fn erase_complete() {\n}\nimpl"), ("    }\n}", "}"),
+            ("said == No(Why::BUSY)", "said.is_err()"), ("said == No(Why::BUSY)", "No(Why::BUSY) == said"), ("tell(No(Why::BUSY))", "tell(said)"),
+            ("tell(No(Why::BUSY))", "tell(Why::BUSY)"), ("tell(", "tell(No(Why::BUSY), "),
+            ("said = door.erase_page()", "said = door.knock()"), ("let said = door", "let said = door.knock();\n        door"),
+        ):
+            ended = alter(SOURCE.replace(old, new))
+            good = ended.returncode == 1 and ended.stderr.startswith("alter: ") and not altered.exists()
+            check(failures, f"alter with {new!r} for {old!r}: status {ended.returncode}, {ended.stderr!r}", good)
+        ended = alter(SOURCE)
+        check(failures, f"alter: status {ended.returncode}, {ended.stderr!r}", altered.exists() and altered.read_text() == ALTERED)
+
+
 def check_shrinking(failures):
     def attempt(lines):
         return Difference(lines, 0, "", "", None) if "seek 3" in lines and "seek 8" in lines else None
@@ -266,6 +315,32 @@ def check_cuts_in_domain(failures, width):
     step("erase ok", f"erase 0 - erase 100 {full}")
     check_allowed(failures, state, True, "cut old", "restart 1 1 = = blank")
     check_allowed(failures, state, False, "cut new", "restart 1 1 = = new", "restart 1 1 = = old")
+
+
+def check_refusals(failures, width):
+    """After an erase that the driver refused nothing is under way, so calls may come and no completion. It is counted, and a cut or restart after it."""
+    sizes = small(width)
+    log = f"? {width} {width} {9 * width} ? {page_0(sizes)} ?"
+    lines, trace = zip(
+        ("restart 1 1 = =", f"restart 0 - - {log}"),
+        ("erase busy", f"erase 2 - erase 100 {log}"),
+        ("erase fail", f"erase 1 - erase 100 {log}"),
+        ("erase ok", f"erase 0 - erase 100 {log}"),
+        ("erase_complete ok blank busy", f"erase_complete 0 erase_done 2 erase 101 {log}"),
+        ("restart 1 1 = =", f"restart 0 - - {log}"),
+        ("erase ok", f"erase 0 - erase 100 {log}"),
+        ("erase_complete ok blank fail", f"erase_complete 0 erase_done 1 erase 101 {log}"),
+        ("cut old", "cut"),
+    )
+    state, counts = fresh_tracker(sizes), Counts()
+    for line, text in zip(lines[:-1], trace):
+        state.update(line, parse(text))
+        check_allowed(failures, state, line == "erase ok", "erase_complete ok blank ok")
+        check_allowed(failures, state, line != "erase ok", "deferred", f"seek {width}")
+    counts.take([sizes.line(), "volume all 255", *lines], trace, "fresh")
+    after = {name: count for name, count in counts.cuts.items() if "refused" in name}
+    check(failures, f"refusals counted as {counts.refusals}", dict(counts.refusals) == dict.fromkeys(REFUSALS, 1))
+    check(failures, f"after them: {after}", after == {"restart after an erase refused in the middle": 1, "cut after an erase refused in the middle": 1})
 
 
 def check_cut_counts(failures, width):
@@ -419,13 +494,25 @@ WRONG_BOOKS = [
 ]
 
 
-def oracle_selftest(oracle, width):
-    """That an oracle takes scripts of its own width alone."""
+def oracle_selftest(oracles, width):
+    """That the oracles take scripts of their own width alone, and part on just those that are for the altered one: there the unchanged one stays busy."""
     failures = []
     own = small(width)
     for sizes, begins in ((own, "restart 0"), (own.on_the_other_board(), "line 1: words of")):
-        trace, _ = oracle.run(f"{sizes.line()}\nvolume all 255\nrestart 1 1 = =\n")
-        check(failures, f"the oracle on '{sizes.line()}': {trace}", "\n".join(trace).startswith(begins))
+        for oracle in (oracles.unchanged, oracles.altered):
+            trace, _ = oracle.run(f"{sizes.line()}\nvolume all 255\nrestart 1 1 = =\n")
+            check(failures, f"the oracle on '{sizes.line()}': {trace}", "\n".join(trace).startswith(begins))
+    fill = f"append {own.data_most} {'07' * own.data_most} ok"
+    begin = [own.line(), "volume all 255", "restart 1 1 = =", fill, fill, "write_complete ok new"]
+    for calls, altered, report in (
+        (["erase busy"], True, "-"), (["erase fail"], True, "-"), (["erase ok", "erase_complete ok blank fail"], True, "erase_done 1"),
+        (["erase ok", "erase_complete ok blank busy"], False, "erase_done 2"), (["erase ok", "erase_complete fail old fail"], False, "erase_done 1"),
+    ):
+        lines = begin + calls + ["append 1 00 ok"]
+        traces = [oracle.run("\n".join(lines) + "\n")[0] for oracle in (oracles.unchanged, oracles.altered)]
+        found, then = parse(traces[1][-2]).report, [parse(trace[-1]).answer for trace in traces]
+        good = turned_down(lines) == altered == (traces[0] != traces[1]) and found == report and then == [BUSY if altered else OK, OK]
+        check(failures, f"the oracles at width {width} on {calls}: the altered one reports {found}, and an append then answers {then}", good)
     return failures
 
 
@@ -443,11 +530,11 @@ def book_selftest(scripts):
 def selftest():
     """What went wrong, in words."""
     failures = []
-    for part in (check_lines, check_traces, check_programs, check_shrinking, check_wants):
+    for part in (check_lines, check_traces, check_programs, check_alter, check_shrinking, check_wants):
         part(failures)
     for part in (
-        check_sizes, check_domain, check_ceiling, check_reads, check_next_entry, check_walk, check_cuts_in_domain, check_cut_counts, check_opening,
-        check_witness,
+        check_sizes, check_domain, check_ceiling, check_reads, check_next_entry, check_walk, check_cuts_in_domain, check_refusals, check_cut_counts,
+        check_opening, check_witness,
     ):
         for width in WIDTHS:
             part(failures, width)

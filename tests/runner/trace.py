@@ -3,7 +3,7 @@
 from collections import namedtuple
 
 # Answers, and results in reports.
-OK, FAIL = 0, 1
+OK, FAIL, BUSY = 0, 1, 2
 
 # Words of a report and of a request, by the first.
 REPORT_WORDS = {"-": 1, "append_done": 4, "read_done": 3, "sync_done": 2, "erase_done": 2, "seek_done": 2}
