@@ -17,8 +17,8 @@
  * PUNELOVASH_BLOCK_SIZE and PUNELOVASH_AT_ the 8-byte board has punelovash8_, PUNELOVASH8_BLOCK_SIZE and PUNELOVASH8_AT_. The
  * other constants are for both.
  *
- * "Document 01" is the definition of the log. An entry ID counts bytes from the log's beginning. N is the page count, L = N * P;
- * O, R and A are the oldest, the read and the append ID.
+ * "Document 01" is the definition of the log, as changed by the requests of document 02 that have landed. An entry ID counts bytes
+ * from the log's beginning. N is the page count, L = N * P; O, R and A are the oldest, the read and the append ID.
  *
  * What is lent
  * ------------
@@ -86,8 +86,10 @@
  *       it, put the copy back and make the same call again with the driver's word. This gives exactly what document 01 says of
  *       that word: the page and hold buffers are left alike whatever the word.
  *
- * (a) suits every driver. By (b) a refusal of append or sync is the call's answer, the log is Idle and no completion is due. A
- * refusal of erase leaves the log in Erase with nothing under way, and then only a restart leads on: by (a) it doesn't.
+ * Either way suits every driver and every request, and leaves the log Idle with no completion due: it goes on, without a restart.
+ * By (b) the refusal is the answer of append, sync or erase, and an erase that is refused leaves the log as it was. An erase
+ * completion answers OK whatever the word; a refusal of the next erase is reported, as erase_done(BUSY) or (FAIL). What was erased up
+ * to then stays erased, and a further erase goes on from O.
  *
  * A power cut may fall anywhere. After it comes a restart, with the sizes and mode of before. A restart while an operation is
  * under way is a cut: let the flash come to rest first.
@@ -340,7 +342,7 @@ uint32_t punelovash8_sync(uint8_t *block, size_t block_length,
  * Erases the log, page by page from the oldest.
  * Answers, in this order: SHAPE, STATE, BUSY, RESERVE (no append client); then OK, or the driver's word. State Erase, and the
  * erase of O's page is requested; punelovash_erase_complete goes on.
- * The driver's refusal is the answer AND LEAVES STATE ERASE, with nothing under way: see (a) above.
+ * The driver's refusal is the answer and leaves the log as it was, in Idle: try again later.
  */
 uint32_t punelovash_erase(uint8_t *block, size_t block_length, uint8_t word);
 uint32_t punelovash8_erase(uint8_t *block, size_t block_length, uint8_t word);
@@ -369,9 +371,8 @@ uint32_t punelovash8_write_complete(uint8_t *block, size_t block_length,
  * The erase that was requested has ended: well, or it failed (good 0). `word` is for the next one.
  * Answers SHAPE, STATE, STRAY (the state isn't Erase) or OK; the driver's word is never the answer here.
  *   Well, and it was the last page: O = R = A = w, page buffer all 0, Idle, erase_done(OK).
- *   Well, and more pages are left: O moves to the next page and its erase is requested; no report, state Erase. The word
- *   BUSY: R is at least the former O, erase_done(BUSY), Idle. The word FAIL: no report, state Erase with nothing under way:
- *   see (a) above.
+ *   Well, and more pages are left: O moves to the next page and its erase is requested; no report, state Erase. Where the word is
+ *   BUSY or FAIL: R is at least the former O, erase_done(BUSY) or erase_done(FAIL), Idle.
  *   Failed: erase_done(FAIL), Idle; O and R are as before.
  * After erase_done with another result than OK, R may be in a page that is erased: seek to punelovash_log_start before a read.
  */

@@ -748,38 +748,50 @@ static void failures(void)
         reads_back(&b, &all, left == OLD ? 0 : 1);
         drop(&b);
     }
+}
+
+/* the driver refuses to erase a further page: by BUSY (2) or by FAIL (any other word) */
+static void erase_stopped(uint8_t word)
+{
+    static struct entries all;
+    struct bench b;
+    uint8_t before[BLOCK_ROOM];
+    uint32_t result = word == PUNELOVASH_WORD_BUSY ? PUNELOVASH_BUSY : PUNELOVASH_FAIL;
 
     part = "an erase whose next request is refused";
-    all.count = 0;
-    fresh(&b, 32, 4, 0, 1);
-    for (int k = 0; k < 3; k++) append_entry(&b, &all, full(32));
-    SAME(erase(&b, PUNELOVASH_WORD_OK), PUNELOVASH_OK, "erase");
-    ends(&b, BLANK);
-    SAME(erase_complete(&b, 1, PUNELOVASH_WORD_BUSY), PUNELOVASH_OK, "erase_complete with BUSY");
-    check_report(&b, PUNELOVASH_ERASE_DONE, 0, 0, PUNELOVASH_BUSY);
-    check_request(&b, PUNELOVASH_ERASE, 1);
-    check_ids(&b, 32 + w, w, 96);
-    SAME(erase(&b, PUNELOVASH_WORD_OK), PUNELOVASH_OK, "erase again");
-    ends(&b, BLANK);
-    SAME(erase_complete(&b, 1, PUNELOVASH_WORD_BUSY), PUNELOVASH_OK, "erase_complete with BUSY");
-    check_report(&b, PUNELOVASH_ERASE_DONE, 0, 0, PUNELOVASH_BUSY);
-    check_ids(&b, 64 + w, 32 + w, 96);
-    reads_back(&b, &all, 2);
-    drop(&b);
-    all.count = 0;
-    fresh(&b, 32, 4, 0, 1);
-    for (int k = 0; k < 3; k++) append_entry(&b, &all, full(32));
-    SAME(erase(&b, PUNELOVASH_WORD_OK), PUNELOVASH_OK, "erase");
-    ends(&b, BLANK);
-    SAME(erase_complete(&b, 1, PUNELOVASH_WORD_FAIL), PUNELOVASH_OK, "erase_complete with FAIL");
-    no_report(&b);
-    check_request(&b, PUNELOVASH_ERASE, 1);
-    SAME(board->state(b.block), PUNELOVASH_IN_ERASE, "state");
-    SAME(restart(&b), PUNELOVASH_OK, "restart leads out of Erase");
-    check_ids(&b, 32 + w, 32 + w, 64 + w); /* page 1 is on flash, page 2 never was */
-    all.count = 2;
-    reads_back(&b, &all, 1);
-    drop(&b);
+    for (int cut = 0; cut < 2; cut++) {
+        all.count = 0;
+        fresh(&b, 32, 4, 0, 1);
+        for (int k = 0; k < 3; k++) append_entry(&b, &all, full(32));
+        for (uint32_t k = 1; k < 3; k++) {
+            SAME(erase(&b, PUNELOVASH_WORD_OK), PUNELOVASH_OK, "erase");
+            ends(&b, BLANK);
+            memcpy(before, b.block, board->block_size);
+            SAME(erase_complete(&b, 1, PUNELOVASH_WORD_OK), PUNELOVASH_OK, "erase_complete");
+            b.kind = PUNELOVASH_NO_REQUEST; /* the driver refuses: way (b) */
+            memcpy(b.block, before, board->block_size);
+            SAME(erase_complete(&b, 1, word), PUNELOVASH_OK, "erase_complete again with the driver's word");
+            check_report(&b, PUNELOVASH_ERASE_DONE, 0, 0, result);
+            check_request(&b, PUNELOVASH_ERASE, k);
+            SAME(board->state(b.block), PUNELOVASH_IDLE, "state");
+            check_ids(&b, 32 * k + w, 32 * (k - 1) + w, 96);
+            if (cut) break;
+        }
+        if (cut) {
+            SAME(restart(&b), PUNELOVASH_OK, "restart");
+            check_ids(&b, 32 + w, 32 + w, 64 + w); /* page 1 is on flash, page 2 never was */
+            all.count = 2;
+            reads_back(&b, &all, 1);
+        } else {
+            reads_back(&b, &all, 2);
+            SAME(erase(&b, PUNELOVASH_WORD_OK), PUNELOVASH_OK, "erase to the end");
+            ends(&b, BLANK);
+            SAME(erase_complete(&b, 1, word), PUNELOVASH_OK, "erase_complete, the last");
+            check_report(&b, PUNELOVASH_ERASE_DONE, 0, 0, PUNELOVASH_OK);
+            check_ids(&b, w, w, w);
+        }
+        drop(&b);
+    }
 }
 
 /* what the header says of a driver that refuses to start */
@@ -841,15 +853,34 @@ static void driver_words(void)
         drop(&b);
         drop(&d);
 
-        part = "a refused erase";
+        part = "a refused erase, directly and by way (b)";
+        all.count = 0;
+        fresh(&d, 32, 4, 0, 1);
+        append_entry(&d, &all, 5);
+        memcpy(before, d.block, board->block_size);
+        SAME(erase(&d, words[k]), answer, "erase with the driver's refusal");
+        no_report(&d);
+        check_request(&d, PUNELOVASH_ERASE, 0);
+        SAME(board->state(d.block), PUNELOVASH_IDLE, "state");
+        CHECK(memcmp(d.block, before, board->at_report) == 0, "the log is not as it was");
         all.count = 0;
         fresh(&b, 32, 4, 0, 1);
         append_entry(&b, &all, 5);
-        SAME(erase(&b, words[k]), answer, "erase with the driver's refusal");
-        no_report(&b);
-        SAME(board->state(b.block), PUNELOVASH_IN_ERASE, "state");
-        SAME(append(&b, data, 1, 1, 0), PUNELOVASH_BUSY, "append after it");
+        SAME(erase(&b, 0), PUNELOVASH_OK, "erase");
+        b.kind = PUNELOVASH_NO_REQUEST;
+        memcpy(b.block, before, board->block_size);
+        SAME(erase(&b, words[k]), answer, "erase again with the driver's word");
+        CHECK(memcmp(b.block, d.block, board->block_size) == 0, "the blocks differ");
+        append_entry(&b, &all, 1);
+        reads_back(&b, &all, 0);
+        SAME(erase(&b, 0), PUNELOVASH_OK, "erase, later");
+        ends(&b, BLANK);
+        SAME(erase_complete(&b, 1, 0), PUNELOVASH_OK, "erase_complete");
+        check_report(&b, PUNELOVASH_ERASE_DONE, 0, 0, PUNELOVASH_OK);
         drop(&b);
+        drop(&d);
+
+        erase_stopped(words[k]);
     }
 
     part = "refusals by way (a)";
@@ -997,7 +1028,6 @@ static void refusals(void)
         SAME(seek(&b, w), reads ? PUNELOVASH_OK : PUNELOVASH_RESERVE, "seek");
         SAME(deferred_call(&b), PUNELOVASH_OK, "deferred_call");
         SAME(erase(&b, PUNELOVASH_WORD_BUSY), appends ? PUNELOVASH_BUSY : PUNELOVASH_RESERVE, "erase");
-        SAME(restart(&b), PUNELOVASH_OK, "restart, as the state may be Erase");
         b.block[board->at_append] = (uint8_t)(8 * w); /* as if the log were full */
         SAME(append(&b, ones, 1, 1, PUNELOVASH_WORD_BUSY), !circular ? PUNELOVASH_FAIL : appends ? PUNELOVASH_BUSY : PUNELOVASH_RESERVE, "append");
         SAME(b.block[board->at_flags], flags, "flags after the calls");

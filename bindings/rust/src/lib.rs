@@ -1,6 +1,6 @@
 //! A log on flash memory, proved: a safe wrapper of libpunelovash.a and libpunelovash8.a.
 //!
-//! The log is defined by "document 01"; `punelovash.h` says of each call what it answers and leaves. In short: a [`Log`] owns
+//! The log is defined by "document 01", as changed by the requests of document 02 that have landed; `punelovash.h` says of each call what it answers and leaves. In short: a [`Log`] owns
 //! its state and has a page and a hold buffer of one flash page each. The volume, the log's flash as memory, is lent to each
 //! call that looks at it, and only the flash driver writes it. Each call gives an [`Outcome`]: an answer, at most one [`Report`]
 //! and at most one [`Request`] to the flash.
@@ -50,8 +50,8 @@
 //! - Give [`DriverWord::Ok`] and start what is requested. If the driver refuses, call the completion with `good` false: an
 //!   operation that failed and left the old page. The log is Idle again, and the report says `Fail`.
 //! - Use [`Log::append_with`], [`Log::sync_with`], [`Log::erase_with`] and [`Log::erase_complete_with`], which ask the driver in
-//!   between. Its refusal is then the answer. A refused erase leaves the log in Erase with nothing under way, and only a restart
-//!   leads on: use the first way for erase, unless the driver refuses nothing.
+//!   between. Its refusal is then the answer and the log is Idle; a refused erase leaves it as it was. An erase's completion answers
+//!   `Ok` whatever the word, and reports the refusal of the next erase.
 #![no_std]
 #![warn(missing_docs)]
 

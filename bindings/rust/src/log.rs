@@ -69,7 +69,7 @@ pub trait LogWrite {
     /// take").
     fn sync(&mut self, volume: &[u8], word: DriverWord) -> Outcome;
 
-    /// Erases the log, page by page. It is reported by the last erase's completion. A refusal leaves state Erase.
+    /// Erases the log, page by page. It is reported by the last erase's completion. A driver's refusal leaves the log as it was.
     fn erase(&mut self, word: DriverWord) -> Outcome;
 }
 
@@ -227,7 +227,7 @@ impl<B: AsRef<[u8]> + AsMut<[u8]>, W: Word> Log<B, W> {
         self.asking(start, |log, word| log.sync(volume, word))
     }
 
-    /// `erase`, where `start` asks the driver. Its refusal leaves state Erase with nothing under way.
+    /// `erase`, where `start` asks the driver. Its refusal leaves the log as it was.
     pub fn erase_with<S>(&mut self, start: S) -> Outcome
     where
         S: FnOnce(Request, &[u8]) -> DriverWord,
@@ -235,7 +235,7 @@ impl<B: AsRef<[u8]> + AsMut<[u8]>, W: Word> Log<B, W> {
         self.asking(start, |log, word| log.erase(word))
     }
 
-    /// `erase_complete`, where `start` asks the driver to start the next erase.
+    /// `erase_complete`, where `start` asks the driver to start the next erase. Its refusal is reported as the end of the erase.
     pub fn erase_complete_with<S>(&mut self, volume: &[u8], good: bool, start: S) -> Outcome
     where
         S: FnOnce(Request, &[u8]) -> DriverWord,

@@ -463,16 +463,23 @@ fn a_driver_that_refuses<W: Word>() {
         let entries: Vec<_> = (1..6).map(|k| vec![k; full]).collect();
         assert_eq!(read_all(&mut log, &flash), entries);
 
-        // a refused erase stays in Erase ..
-        let mut stuck = log.clone();
-        let got = stuck.erase_with(|_, _| word);
+        // a refused erase leaves the log as it was: it goes on, and is erased later
+        let before = ids(&log);
+        let got = log.erase_with(|_, _| word);
         assert_eq!(got.answer, answer);
-        assert_eq!(stuck.state(), Some(State::Erase));
-        // .. and as an operation that failed it doesn't
+        assert_eq!(
+            (got.report, got.request),
+            (Report::Nothing, Request::Erase(PageNumber(8)))
+        );
+        assert_eq!(log.state(), Some(State::Idle));
+        assert_eq!(ids(&log), before);
+        // the same by an erase that is started, and reported as failed
         assert_eq!(log.erase(OK).answer, Answer::Ok);
         let got = log.erase_complete(&flash.volume, false, OK);
         assert_eq!(got.report, Report::EraseDone(Answer::Fail));
         assert_eq!(log.state(), Some(State::Idle));
+        assert_eq!(ids(&log), before);
+        append(&mut log, &mut flash, &vec![6; full]);
     }
 }
 

@@ -214,9 +214,6 @@ impl<W: Word> Run<W> {
     /// An erase's completion: of the erase under way, or where STRAY refuses it.
     fn erase_complete(&mut self) {
         let due = self.model.state == State::Erase;
-        if due && !self.model.erasing() {
-            return; // the driver refused, and no completion comes
-        }
         let good = !self.random.one_in(8);
         let left = self.random.pick(&[Left::Old, Left::Blank]);
         let word = self.word();
@@ -236,6 +233,9 @@ impl<W: Word> Run<W> {
             got
         };
         self.agree("erase_complete", got, want);
+        if got.report != Report::Nothing && got.request != Request::Nothing {
+            self.meet(format!("erase stopped {word:?}"));
+        }
     }
 
     /// The bytes that a read left in the buffer, where it was OK.
@@ -357,9 +357,7 @@ impl<W: Word> Run<W> {
         match self.model.state {
             // mostly what leads on
             State::Append | State::Sync if !self.random.one_in(6) => return self.write_complete(),
-            State::Erase if self.model.erasing() && !self.random.one_in(6) => {
-                return self.erase_complete()
-            }
+            State::Erase if !self.random.one_in(6) => return self.erase_complete(),
             State::Erase if self.random.one_in(3) => return self.restart(true),
             State::Read | State::Seek if !self.random.one_in(6) => return self.deferred_call(),
             _ => {}
@@ -452,6 +450,8 @@ fn random_lists_agree_with_the_model<W: Word>() {
         "EraseDone(Ok)",
         "EraseDone(Fail)",
         "EraseDone(Busy)",
+        "erase stopped Busy",
+        "erase stopped Fail",
         "read_done Ok",
         "SeekDone(Ok)",
         "cut in a write Old",

@@ -37,7 +37,7 @@ use Rattle.bench_flash.specs.Event as event
 use Rattle.bench.specs.World.{unended, Told, ended_by}
 use Rattle.bench.specs.Book.{Page, Book, allowed, in_book, with_slot, with_open, empty_page, with_entry, append_reported, joins, asked, slot_left, left_in}
 use Rattle.bench.specs.Book.{recorded}
-use Rattle.bench.proofs.Invariant.{SomeEntry, SlotHolds, Has, HasOrBlank, Near, Books, Buffered, Under, idle, read, seek, stuck, erase, sync, append}
+use Rattle.bench.proofs.Invariant.{SomeEntry, SlotHolds, Has, HasOrBlank, Near, Books, Buffered, Under, idle, read, seek, erase, sync, append}
 use Rattle.bench.proofs.BookPages.{one_page, none_or_some}
 
 -- not (not x or y) is x and not y
@@ -385,7 +385,6 @@ pub books_ended : {g : Setup} {volume page hold : List ℕ} {kept : ℕ} {b : Bo
 books_ended bk idle left = bk
 books_ended bk read left = bk
 books_ended bk seek left = bk
-books_ended bk stuck left = bk
 books_ended {g} {volume} {b = b} {oldest} bk (erase e) left =
     let h = mod-lt oldest (facts bk.sizes).count in
     subst (λ (s : ℕ). Books g (leave g.p (slot_of g.n oldest) (blank_page g.p) left volume) (slot_left b s none left)) (sym e)

@@ -49,7 +49,6 @@ module _ {x : World} {b : Book} (v : Inv x.log.setup x b) (r : Running x.log.set
       go (write_ended good) _ _ e under.idle clear = stray (write_ended good)
       go (write_ended good) _ _ e under.read clear = stray (write_ended good)
       go (write_ended good) _ _ e under.seek clear = stray (write_ended good)
-      go (write_ended good) _ _ e under.stuck clear = stray (write_ended good)
       go (write_ended good) _ _ e (under.erase q) clear = stray (write_ended good)
       go (write_ended good) _ _ e (under.sync wr) clear =
           due_ends v.books r (under.sync wr) (write_ended good) left (ap (λ (s : State). not (is s Append || is s Sync)) e)
@@ -60,7 +59,6 @@ module _ {x : World} {b : Book} (v : Inv x.log.setup x b) (r : Running x.log.set
       go (erase_ended good word) _ _ e under.idle clear = stray (erase_ended good word)
       go (erase_ended good word) _ _ e under.read clear = stray (erase_ended good word)
       go (erase_ended good word) _ _ e under.seek clear = stray (erase_ended good word)
-      go (erase_ended good word) _ _ e under.stuck clear = stray (erase_ended good word)
       go (erase_ended good word) _ _ e (under.erase q) clear =
           due_ends v.books r (under.erase q) (erase_ended good word) left (ap (λ (s : State). not (is s Erase)) e)
           (erase_ends v.books r q left good word) clear

@@ -14,32 +14,32 @@ use Rattle.page.proofs.Kit.{Facts, facts, pages_lt}
 use Rattle.engine_state.specs.Answer.{erase_page}
 use Rattle.engine_state.specs.Log.{Setup, State, Idle, Erase, Log}
 use Rattle.engine_state.specs.Check.{state_fits}
-use Rattle.engine_call.specs.Outcome.{Done, Lent, Word, ok, busy, fail, moved}
+use Rattle.engine_call.specs.Outcome.{Done, Lent, Word, ok, busy, fail, state_after, moved}
 use Rattle.engine_call.specs.Call as calls
 use Rattle.engine_call.specs.Call.{erase_ended}
 use Rattle.engine_call.specs.Gate.{unless_free}
 use Rattle.engine_call.proofs.Checks.{through, same_state}
-use Rattle.engine_erase.specs.Erase.{last_erased, reset, read_after_busy, erases_next, erase_failed, erase_runs}
+use Rattle.engine_erase.specs.Erase.{last_erased, reset, read_after, erases_next, erase_failed, erase_runs}
 use Rattle.engine_laws.proofs.Calls.{by_pick, by_call}
 use Rattle.engine_laws.proofs.CallKeeps.{call_keeps}
 use Rattle.bench_flash.specs.Flash.{Operation, no_operation, erasing, under_way, Left, new, after_end}
 use Rattle.bench_flash.specs.Event.{call}
 use Rattle.bench.specs.World.{World, lent_by, unended, delivered, step_on}
 use Rattle.bench.specs.Book.{Page, Book, in_book, with_slot, asked, recorded}
-use Rattle.bench.proofs.Invariant.{SomeEntry, Has, Live, Books, Oldest, Under, UnderIn, idle, stuck, erase, Running, Inv, After}
+use Rattle.bench.proofs.Invariant.{SomeEntry, Has, Live, Books, Oldest, Under, UnderIn, idle, erase, Running, Inv, After}
 use Rattle.bench.proofs.BookSteps.{Elsewhere, has_left, books_same, books_none, books_ended, buffered_zero}
 use Rattle.bench.proofs.Appends.{oldest_of_lem, some_length}
 use Rattle.bench.proofs.Quiet.{no_start, under_nothing, idle_rests, refused_inv}
 use Rattle.bench.proofs.WrittenKeeps.{Ends, lent_then, left_inv}
 
--- an erase of the page o that is asked for in state Erase is under way, or nothing is
+-- an erase of the page o that is asked for is under way, or the driver refused it, and the log is Idle
 asked_under : {g : Setup} {page hold : List ℕ} {kept : ℕ} (b : Book) (t o : ℕ) → t ≡ slot_of g.n o → {op : Operation} → op ≡ no_operation → (word : Word)
-    → Under g page hold kept (asked b (some (g.first + t - g.first))) o Erase (under_way op (erase_page (g.first + t)) word g.first)
+    → Under g page hold kept (asked b (some (g.first + t - g.first))) o (state_after word Erase) (under_way op (erase_page (g.first + t)) word g.first)
 asked_under {g} {page} {hold} {kept} b t o e n ok =
     let s : g.first + t - g.first ≡ slot_of g.n o = omega arith ∙ e in
     subst (λ (q : ℕ). Under g page hold kept (asked b (some (g.first + t - g.first))) o Erase (erasing q)) (sym s) (erase s)
-asked_under b t o e n busy = subst (Under _ _ _ _ _ o Erase) (sym n) stuck
-asked_under b t o e n fail = subst (Under _ _ _ _ _ o Erase) (sym n) stuck
+asked_under b t o e n busy = subst (Under _ _ _ _ _ o Idle) (sym n) idle
+asked_under b t o e n fail = subst (Under _ _ _ _ _ o Idle) (sym n) idle
 
 module _ {x : World} {b : Book} (bk : Books x.log.setup x.volume b) (r : Running x.log.setup x b) where
   abbrev g : Setup
@@ -201,8 +201,8 @@ module _ {x : World} {b : Book} (bk : Books x.log.setup x.volume b) (r : Running
       next_ends : (word : Word) → Keeps true word (erases_next x.log (lent true word) word)
       unfolding recorded
       next_ends ok clear fits = next_inv Erase x.log.read _ _ fits (asked_under (with_slot b b.erase_slot none) _ _ next_slot refl ok)
-      next_ends busy clear fits = next_inv Idle (read_after_busy x.log.read x.log.oldest) _ _ fits idle
-      next_ends fail clear fits = next_inv Erase x.log.read _ _ fits (asked_under (with_slot b b.erase_slot none) _ _ next_slot refl fail)
+      next_ends busy clear fits = next_inv Idle (read_after busy x.log.read x.log.oldest) _ _ fits idle
+      next_ends fail clear fits = next_inv Idle (read_after fail x.log.read x.log.oldest) _ _ fits idle
 
     -- an erase that ends
     pub erase_ends : (good : Bool) (word : Word) → Keeps good word (erase_runs x.log (lent good word) good word)

@@ -15,8 +15,8 @@ use Rattle.page.proofs.Kit.{Facts, facts, overwritten_lap, overwritten_none}
 use Rattle.engine_state.specs.Log.{Setup, State, Idle}
 use Rattle.engine_state.specs.Check.{state_fits}
 use Rattle.engine_state.proofs.Checks.{state_fits_lem}
-use Rattle.engine_call.specs.Outcome.{Done, lend, Word, ok}
-use Rattle.engine_write.specs.Flush.{last_page, overwritten_page, moved_oldest, state_after, flush}
+use Rattle.engine_call.specs.Outcome.{Done, lend, Word, ok, state_after}
+use Rattle.engine_write.specs.Flush.{last_page, overwritten_page, moved_oldest, flush}
 use Rattle.bench_flash.specs.Flash.{writing, under_way}
 use Rattle.bench.specs.World.{World, unended, delivered}
 use Rattle.bench.specs.Book.{Page, Book}

@@ -14,11 +14,11 @@ use Rattle.page.specs.Header.{header}
 use Rattle.page.specs.Layout.{whole_page}
 use Rattle.page.specs.Answered.{FAIL}
 use Rattle.engine_state.specs.Answer.{OK, CANCEL, Report, no_report, append_done, sync_done, erase_done, read_done, seek_done}
-use Rattle.engine_state.specs.Log.{Setup, State, Append, Log, is}
+use Rattle.engine_state.specs.Log.{Setup, State, Append, Sync, Erase, Log, is}
 use Rattle.engine_state.specs.Check.{Sized}
 use Rattle.engine_state.specs.Open.{may_open}
 use Rattle.engine_call.specs.Outcome.{Lent, Done, first_of, ◌or_else◌, unless}
-use Rattle.engine_call.specs.Call.{append_data, Completion, write_ended, ends_well}
+use Rattle.engine_call.specs.Call.{append_data, Completion, write_ended, erase_ended, ends_well}
 use Rattle.engine_call.specs.Gate.{gate, unless_writing}
 use Rattle.engine_write.specs.Store.{store}
 use Rattle.engine_write.specs.WriteComplete.{opens_next, not_stored, sync_done_of, append_written, sync_written, write_runs, write_complete}
@@ -29,7 +29,7 @@ use Rattle.bench.specs.World.{World, lent_by, Told, Step, ended_by, ending, ends
 use Rattle.bench.specs.Book.{Page, Book, empty_page, slot_left, left_in, fills, next_page, append_reported, erase_reported, entry_of, joins, is_ok, waits}
 use Rattle.bench.specs.Book.{asked, opens, emptied, pages, newest, reopened, sync_reported, fed, recorded}
 use Rattle.bench.specs.Promise.{Bench, stepped, stepped_all, Clear, AllClear, NoHeader, start}
-use Rattle.bench.proofs.Invariant.{SlotHolds, Has, Books, Under, idle, read, seek, stuck, erase, sync, append, Running, Powered, Inv}
+use Rattle.bench.proofs.Invariant.{SlotHolds, Has, Books, Under, idle, read, seek, erase, sync, append, Running, Powered, Inv}
 use Rattle.bench.proofs.BookSteps.{slot_other}
 use Rattle.bench.proofs.RestartKeeps.{has_its_number, slot_holds}
 use Rattle.bench.proofs.Gates.{gate_passes}
@@ -51,6 +51,32 @@ pub gate_open_after : (g : Setup) (l : Log) (volume page hold : List ℕ) → Si
     x.power ≡ true → gate x.log (lent_by x) ≡ none
 gate_open_after g l volume page hold z first whole none-valid es clear on =
     gate_open (list_inv (start l volume page hold) (start_inv g l volume page hold z first whole none-valid) es clear) on
+
+-- with the power on a completion is due exactly while its operation is under way: a write's in Append and Sync, an erase's in Erase
+pub due_exactly : {g : Setup} {x : World} {b : Book} → Inv g x b → x.power ≡ true → (c : Completion)
+    → (unless_due x.log c).test ≡ not (ends c x.operation)
+due_exactly {g} {x} {b} i on c = go c refl (subst (Powered g x b) on i.powered).under
+  where
+    writes : State → Bool
+    writes s = not (is s Append || is s Sync)
+
+    erases : State → Bool
+    erases s = not (is s Erase)
+
+    go : (c : Completion) {page hold : List ℕ} {kept oldest : ℕ} {s : State} {op : Operation} → x.log.state ≡ s
+        → Under g page hold kept b oldest s op → (unless_due x.log c).test ≡ not (ends c op)
+    go (write_ended good) e idle = ap writes e
+    go (write_ended good) e read = ap writes e
+    go (write_ended good) e seek = ap writes e
+    go (write_ended good) e (erase a) = ap writes e
+    go (write_ended good) e (sync a) = ap writes e
+    go (write_ended good) e (append a w) = ap writes e
+    go (erase_ended good word) e idle = ap erases e
+    go (erase_ended good word) e read = ap erases e
+    go (erase_ended good word) e seek = ap erases e
+    go (erase_ended good word) e (erase a) = ap erases e
+    go (erase_ended good word) e (sync a) = ap erases e
+    go (erase_ended good word) e (append a w) = ap erases e
 
 -- a report isn't an append's CANCEL
 abbrev NotCancel : Report → Type 0
@@ -92,7 +118,6 @@ next_opens {g} {x} {b} bk r e = ap (λ (h : Setup). may_open h x.log.append) r.s
     go idle e = absurd (true≢false (sym e))
     go read e = absurd (true≢false (sym e))
     go seek e = absurd (true≢false (sym e))
-    go stuck e = absurd (true≢false (sym e))
     go (erase i) e = absurd (true≢false (sym e))
     go (sync a) e = absurd (true≢false (sym e))
     go (append a c) e = may_next bk r.buffer a.some_entry ∙ c.next
@@ -181,7 +206,6 @@ ended_left : {g : Setup} {page hold : List ℕ} {kept : ℕ} {b : Book} {oldest 
 ended_left idle s d left = refl
 ended_left read s d left = refl
 ended_left seek s d left = refl
-ended_left stuck s d left = refl
 ended_left {b = b} (erase e) s d left = slot_left_lem b b.erase_slot none s (λ i. d (i ∙ e)) left
 ended_left {b = b} (sync a) s d left = slot_left_lem b _ (some b.open_page) s d left
 ended_left {b = b} (append a c) s d left = slot_left_lem b _ (some b.open_page) s d left

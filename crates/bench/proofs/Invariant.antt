@@ -94,12 +94,11 @@ pub record Waits (g : Setup) (kept : ℕ) (hold : List ℕ) (b : Book) : Type 0 
   pub held : take (length b.waiting) hold ≡ b.waiting
   pub next : allowed g (b.open_page.number + 1) ≡ true
 
--- "A write is under way exactly in Append and Sync"; state Erase with nothing under way is reached where the driver refused
+-- a write is under way exactly in Append and Sync, an erase exactly in Erase (`due_exactly`)
 pub data Under (g : Setup) (page hold : List ℕ) (kept : ℕ) (b : Book) (oldest : ℕ) : State → Operation → Type 0 where
   idle : Under g page hold kept b oldest Idle no_operation
   read : Under g page hold kept b oldest Read no_operation
   seek : Under g page hold kept b oldest Seek no_operation
-  stuck : Under g page hold kept b oldest Erase no_operation
   erase : b.erase_slot ≡ slot_of g.n oldest → Under g page hold kept b oldest Erase (erasing (slot_of g.n oldest))
   sync : Writes g page b.open_page oldest → Under g page hold kept b oldest Sync (writing (slot_of g.n b.open_page.number))
   append : Writes g page b.open_page oldest → Waits g kept hold b

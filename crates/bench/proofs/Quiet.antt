@@ -216,7 +216,6 @@ under_busy : {g : Setup} {page hold : List ℕ} {kept : ℕ} {b : Book} {o : ℕ
 under_busy under.idle = inl refl
 under_busy under.read = inl refl
 under_busy under.seek = inl refl
-under_busy under.stuck = inl refl
 under_busy (under.erase e) = inr (refl, refl)
 under_busy (under.sync a) = inr (refl, refl)
 under_busy (under.append a c) = inr (refl, refl)

@@ -121,9 +121,11 @@ fn erases(on: &Cases<impl Print>) -> io::Result<()> {
     line(on, "page 1 erased", done(next, OK))?;
     let failed = lent.erase_complete(starts, false, OK);
     line(on, "erase failed", failed)?;
-    line(on, "erase interrupted", done(starts, BUSY))?;
-    line(on, "erase refused in the middle", done(starts, FAIL))?;
-    line(on, "erase refused", lent.erase(log, BUSY))?;
+    line(on, "erase refused in the middle, BUSY", done(starts, BUSY))?;
+    line(on, "erase refused in the middle, FAIL", done(starts, FAIL))?;
+    line(on, "erase refused, BUSY", lent.erase(log, BUSY))?;
+    let refused = line(on, "erase refused, FAIL", lent.erase(log, FAIL))?;
+    line(on, "erase after a refusal", lent.erase(refused, OK))?;
     line(on, "stray erase completion", done(log, OK))?;
     Ok(())
 }

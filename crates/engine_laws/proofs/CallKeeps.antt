@@ -6,13 +6,13 @@ use native.Mathlib.Omega.{arith}
 use Rattle.engine_state.specs.Log.{Idle, Sync, Erase, Log}
 use Rattle.engine_state.specs.Check.{kept_fits, state_fits}
 use Rattle.engine_state.proofs.Checks.{StateFits, state_fits_lem, fits_state}
-use Rattle.engine_call.specs.Outcome.{Lent, Done, first_of}
+use Rattle.engine_call.specs.Outcome.{Lent, Done, state_after, first_of}
 use Rattle.engine_call.specs.Call.{Call, append, sync, read, seek, deferred, erase, Completion, write_ended, erase_ended}
 use Rattle.engine_call.specs.Gate.{gate}
 use Rattle.engine_call.proofs.Gates.{shaped}
 use Rattle.engine_laws.specs.Call.{call, complete}
 use Rattle.engine_laws.proofs.Calls.{checks_of, body_of, end_of, by_call, by_complete}
-use Rattle.engine_laws.proofs.StateKit.{LeavesState, flush_fits, state_set}
+use Rattle.engine_laws.proofs.StateKit.{LeavesState, kept_after, flush_fits, state_set}
 use Rattle.engine_laws.proofs.WritesKeep.{append_fits, write_fits}
 use Rattle.engine_laws.proofs.ReadsKeep.{read_fits, seek_fits}
 use Rattle.engine_laws.proofs.ErasesKeep.{erase_fits}
@@ -25,7 +25,7 @@ body_fits l x (sync word) h s p = flush_fits l (shaped l _ _ _ h).sizes s x Sync
 body_fits l x (read room n) h s p = read_fits l (shaped l _ _ _ h).sizes s x n
 body_fits l x (seek id) h s p = seek_fits l s x id p
 body_fits l x deferred h s p = state_set s Idle refl
-body_fits l x (erase word) h s p = state_set s Erase refl
+body_fits l x (erase word) h s p = state_set s (state_after word Erase) (kept_after word Erase l.kept refl)
 
 end_fits : (l : Log) (x : Lent) (c : Completion) → gate l x ≡ none → StateFits l → LeavesState (end_of l x c)
 end_fits l x (write_ended good) h s = let g = shaped l _ _ _ h in write_fits l g.sizes s x good (omega (arith, g.held, s.kept_most))

@@ -1,19 +1,20 @@
 -- The state after an erase's completion satisfies STATE if the state before did.
-use Prim.Native.Nat.{◌+◌, ◌%◌, ◌<◌}
+use Prim.Native.Nat.{◌+◌, ◌%◌, ◌≤◌, ◌<◌}
 use mathlib.Core.Path.{◌≡◌, refl, ◌∙◌}
 use mathlib.Core.Bool.{Bool}
 use mathlib.Core.Logic.{inr}
 use native.Mathlib.Nat.{mod-eq_of_lt, add-mod_right}
 use native.Mathlib.Omega.{arith}
 use borrow.Author.Tests.{leb-false}
+use Rattle.page.specs.Sizes.{ceiling}
 use Rattle.page.proofs.Kit.{facts}
 use Rattle.engine_state.specs.Log.{Idle, Erase, Log}
 use Rattle.engine_state.specs.Check.{Sized, kept_fits}
 use Rattle.engine_state.proofs.Checks.{StateFits}
-use Rattle.engine_call.specs.Outcome.{Lent, Word, ok, busy, fail}
-use Rattle.engine_erase.specs.Erase.{last_erased, reset, read_after_busy, erases_next, erase_runs}
+use Rattle.engine_call.specs.Outcome.{Lent, Word, ok, busy, fail, state_after}
+use Rattle.engine_erase.specs.Erase.{last_erased, reset, read_after, erases_next, erase_runs}
 use Rattle.engine_laws.proofs.Calls.{by_pick}
-use Rattle.engine_laws.proofs.StateKit.{LeavesState, OldestFits, moved_fits, state_set}
+use Rattle.engine_laws.proofs.StateKit.{LeavesState, OldestFits, moved_fits, state_set, kept_after}
 
 -- the state after an erase's completion satisfies STATE
 pub erase_fits : (l : Log) → Sized l.setup → StateFits l → (x : Lent) (good : Bool) (word : Word) → StateFits (erase_runs l x good word).outcome.log
@@ -39,7 +40,10 @@ erase_fits l z s x good word =
     later : l.oldest + l.setup.p < l.append → OldestFits l (l.oldest + l.setup.p)
     later b = record { headed = omega (arith, s.headed); ordered = omega arith; first = add-mod_right l.oldest l.setup.p ∙ s.first }
 
+    read_fits : (word : Word) → read_after word l.read l.oldest ≤ ceiling l.setup.w
+    read_fits ok = s.read_limited
+    read_fits busy = omega (arith, s)
+    read_fits fail = omega (arith, s)
+
     next : OldestFits l (l.oldest + l.setup.p) → (word : Word) → LeavesState (erases_next l x word)
-    next o ok = moved_fits s Erase o l.read l.kept s.read_limited s.kept_most refl
-    next o busy = moved_fits s Idle o (read_after_busy l.read l.oldest) l.kept (omega (arith, s)) s.kept_most refl
-    next o fail = moved_fits s Erase o l.read l.kept s.read_limited s.kept_most refl
+    next o word = moved_fits s (state_after word Erase) o (read_after word l.read l.oldest) l.kept (read_fits word) s.kept_most (kept_after word Erase l.kept refl)

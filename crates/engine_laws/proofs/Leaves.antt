@@ -21,7 +21,7 @@ use Rattle.engine_write.specs.Append.{fits_page, holding, append_runs}
 use Rattle.engine_write.proofs.AppendLaws.{accepted}
 use Rattle.engine_write.specs.WriteComplete.{opens_next, append_written, sync_written, write_runs}
 use Rattle.engine_read.specs.Read.{Found, entry, no_entry, found, read_done_of, read_runs}
-use Rattle.engine_erase.specs.Erase.{last_erased, erases_next, erase_runs}
+use Rattle.engine_erase.specs.Erase.{erase_starts, last_erased, erases_next, erase_runs}
 use Rattle.engine_laws.specs.Call.{call, complete}
 use Rattle.engine_laws.proofs.Calls.{checks_of, body_of, end_of, by_pick, by_unless, by_call, by_complete}
 use Rattle.engine_laws.proofs.Openable.{append_may}
@@ -72,6 +72,11 @@ module _ (l : Log) (x : Lent) where
   read_leaves (no_entry a) = quiet (λ o. o)
   read_leaves (entry id size) = quiet (λ o. refl)
 
+  starts_leaves : (word : Word) → Leaves l (erase_starts l x word)
+  starts_leaves ok = quiet (λ o. refl)
+  starts_leaves busy = quiet (λ o. refl)
+  starts_leaves fail = quiet (λ o. refl)
+
   body_leaves : (c : Call) → gate l x ≡ none → first_of (checks_of l c) ≡ none → Leaves l (body_of l x c)
   unfolding append_runs store read_runs
   body_leaves (append bytes n word) g p =
@@ -87,7 +92,7 @@ module _ (l : Log) (x : Lent) where
   body_leaves deferred g p =
       idle (λ o. by_pick (λ (r : Report). cancels r ≡ false) (is l.state Read) (λ e. refl)
       (λ e. by_pick (λ (r : Report). cancels r ≡ false) (is l.state Seek) (λ e. refl) (λ e. refl)))
-  body_leaves (erase word) g p = quiet (λ o. refl)
+  body_leaves (erase word) g p = starts_leaves word
 
   -- "A restart, completion or deferred call that isn't refused answers OK"
   abbrev Ends : Done → Type 0
@@ -96,7 +101,7 @@ module _ (l : Log) (x : Lent) where
   erases_end : (word : Word) → Ends (erases_next l x word)
   erases_end ok = (quiet (λ o. refl), refl)
   erases_end busy = (idle (λ o. refl), refl)
-  erases_end fail = (quiet (λ o. refl), refl)
+  erases_end fail = (idle (λ o. refl), refl)
 
   ends : (c : Completion) → Ends (end_of l x c)
   unfolding write_runs append_written sync_written store erase_runs

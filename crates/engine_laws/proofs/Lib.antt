@@ -7,6 +7,7 @@ pub mod WritesKeep
 pub mod ReadsKeep
 pub mod ErasesKeep
 pub mod CallKeeps
+pub mod TurnedDown
 pub mod Openable
 pub mod Leaves
 pub mod FromRestart

@@ -178,11 +178,11 @@ module _ (l : Log) (x : Lent) where
 
   pub record EraseRows (c : Call) : Type 0 where
     pub gate : GateRows (call l x c) (body_of l x c)
-    -- "BUSY"; or the driver's word
+    -- "BUSY"; or the driver's word, which leaves all as before too (`erase_turned_down`)
     pub busy : CallRow c BUSY (past_gate [] (not_idle l)) (call_gives c BUSY)
     -- "RESERVE"
     pub reserve : CallRow c RESERVE (past_gate (not_idle l ∷ []) (not l.append_client)) false
-    -- the driver's word
+    -- the driver's word, likewise
     pub fail : CallRow c FAIL false (call_gives c FAIL)
     pub ok : CallRow c OK false (call_gives c OK)
 

@@ -16,8 +16,8 @@ use Rattle.page.proofs.Kit.{facts, parts, page_mono, pages_lt, overwritten_lap, 
 use Rattle.engine_state.specs.Log.{State, Log}
 use Rattle.engine_state.specs.Check.{Sized, kept_fits}
 use Rattle.engine_state.proofs.Checks.{StateFits, offset_in}
-use Rattle.engine_call.specs.Outcome.{Lent, Done, Word, ok, busy, fail, moved, in_state}
-use Rattle.engine_write.specs.Flush.{overwritten_page, moved_read, moved_oldest, state_after, flush}
+use Rattle.engine_call.specs.Outcome.{Lent, Done, Word, ok, busy, fail, state_after, moved, in_state}
+use Rattle.engine_write.specs.Flush.{overwritten_page, moved_read, moved_oldest, flush}
 use Rattle.engine_write.specs.Store.{store}
 use Rattle.engine_laws.proofs.Calls.{by_pick}
 
@@ -104,7 +104,7 @@ read_moves l z s =
     (λ e. s.read_limited)
 
 -- a driver's refusal leaves Idle, in which any kept length fits
-kept_after : (word : Word) (state : State) (kept : ℕ) → kept_fits state kept ≡ true → kept_fits (state_after word state) kept ≡ true
+pub kept_after : (word : Word) (state : State) (kept : ℕ) → kept_fits state kept ≡ true → kept_fits (state_after word state) kept ≡ true
 unfolding kept_fits
 kept_after ok state kept h = h
 kept_after busy state kept h = refl
