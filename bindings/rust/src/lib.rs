@@ -1,9 +1,9 @@
 //! A log on flash memory, proved: a safe wrapper of libpunelovash.a and libpunelovash8.a.
 //!
-//! The log is defined by "document 01", as changed by the requests of document 02 that have landed; `punelovash.h` says of each call what it answers and leaves. In short: a [`Log`] owns
-//! its state and has a page and a hold buffer of one flash page each. The volume, the log's flash as memory, is lent to each
-//! call that looks at it, and only the flash driver writes it. Each call gives an [`Outcome`]: an answer, at most one [`Report`]
-//! and at most one [`Request`] to the flash.
+//! The log is defined by "document 01", as changed by the requests of document 02 that have landed; `punelovash.h` says of each
+//! call what it answers and leaves. In short: a [`Log`] owns its state and has a page and a hold buffer of one flash page each.
+//! The volume, the log's flash as memory, is lent to each call that looks at it, and only the flash driver writes it. Each call
+//! gives an [`Outcome`]: an answer, at most one [`Report`] and at most one [`Request`] to the flash.
 //!
 //! There are two boards. [`Log4`] is a log with 4-byte words, [`Log8`] one with 8-byte words: `Log<B, u32>` and `Log<B, u64>`.
 //! They have the same calls; [`Word`] says how they differ, and stands for either in code for both.

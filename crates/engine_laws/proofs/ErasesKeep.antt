@@ -46,4 +46,5 @@ erase_fits l z s x good word =
     read_fits fail = omega (arith, s)
 
     next : OldestFits l (l.oldest + l.setup.p) → (word : Word) → LeavesState (erases_next l x word)
-    next o word = moved_fits s (state_after word Erase) o (read_after word l.read l.oldest) l.kept (read_fits word) s.kept_most (kept_after word Erase l.kept refl)
+    next o word =
+        moved_fits s (state_after word Erase) o (read_after word l.read l.oldest) l.kept (read_fits word) s.kept_most (kept_after word Erase l.kept refl)
