@@ -1,4 +1,4 @@
-// The lines that are no call of the engine: the getters, a survey, the volume's bytes and another state.
+// The lines that are no call of the engine: the getters, a survey, the volume's bytes, another state, and the walk of a page given alone.
 use crate::state::Replay;
 use crate::stop::Stop;
 use bench_step::world::World;
@@ -7,6 +7,7 @@ use engine_restart::survey;
 use engine_state::answer::Answer;
 use engine_state::get;
 use engine_state::state::Log;
+use page::word::WordWidth;
 use std::fmt::Display;
 use std::io;
 use tool_print::print::Row;
@@ -74,6 +75,18 @@ impl<P: Print> Replay<'_, P> {
         Ok(())
     }
 
+    // The walk of the page that stands in the client's buffer, at the script's width.
+    fn walk(&mut self) -> io::Result<()> {
+        let width = if self.bench.setup.width == 4 {
+            WordWidth::FOUR
+        } else {
+            WordWidth::EIGHT
+        };
+        let walk = page::walk::walk(width, self.client.as_slice());
+        let (length, words) = (walk.length, walk.words);
+        self.trace.line(format_args!("walk {length} {words}"))
+    }
+
     pub(crate) fn other(&mut self, line: Other) -> Result<(), Stop> {
         match line {
             Other::Cut(left) => self.cut(left)?,
@@ -81,6 +94,7 @@ impl<P: Print> Replay<'_, P> {
             Other::Survey(count) => self.survey(count)?,
             Other::Volume => self.show_volume()?,
             Other::Put(state) => self.put(state)?,
+            Other::Walk => self.walk()?,
         }
         Ok(())
     }

@@ -1,5 +1,5 @@
 -- The lines of a script after the first three, by their words.
-use Rattle.std.specs.Prelude.{◌≡◌, ◌≢◌, ◌≤◌, ℕ, Bool, true, if◌then◌else◌, List, [], ◌∷◌, codes}
+use Rattle.std.specs.Prelude.{◌≡◌, ◌≢◌, ◌≤◌, ℕ, Bool, true, if◌then◌else◌, List, [], ◌∷◌, length, codes}
 use Rattle.std.specs.Str.Parse.{digits_value}
 use Rattle.bench_flash.specs.declared.event.Call.TheVariants as c
 use Rattle.bench_flash.specs.declared.event.Completion.TheVariants as d
@@ -42,3 +42,5 @@ Spells words (l.Other o.Volume) client = words ≡ codes "volume" ∷ []
 Spells words (l.Other (o.Put put)) client =
     (o r a m : List ℕ) × Numeral o put.oldest.0 × Numeral r put.read.0 × Numeral a put.append.0 × Numeral m put.length
     × (words ≡ codes "state" ∷ state_word put.state ∷ o ∷ r ∷ a ∷ m ∷ [])
+-- `walk BYTES`: "at most 4,096 bytes, any length"
+Spells words (l.Other o.Walk) client = (length client ≤ 4096) × (words ≡ codes "walk" ∷ bytes_word client ∷ [])

@@ -30,6 +30,7 @@ name_word n.Cut = codes "cut"
 name_word n.Get = codes "get"
 name_word n.Survey = codes "survey"
 name_word n.State = codes "state"
+name_word n.Walk = codes "walk"
 
 -- how an operation ended
 abbrev pub end_word : end.End → List ℕ

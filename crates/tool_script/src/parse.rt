@@ -33,6 +33,7 @@ pub enum Name {
     Get,
     Survey,
     State,
+    Walk,
 }
 
 impl Name {
@@ -57,6 +58,7 @@ impl Name {
             Name::Get => "get",
             Name::Survey => "survey",
             Name::State => "state",
+            Name::Walk => "walk",
         }
     }
 
@@ -90,6 +92,7 @@ impl Word for Name {
             _ if Name::Get.is(word) => Some(Name::Get),
             _ if Name::Survey.is(word) => Some(Name::Survey),
             _ if Name::State.is(word) => Some(Name::State),
+            _ if Name::Walk.is(word) => Some(Name::Walk),
             _ => None,
         }
     }
@@ -192,9 +195,10 @@ pub enum Other {
     Survey(usize),
     Volume,
     Put(Put),
+    Walk,
 }
 
-// A line after the first three. The client's buffer stands beside a call.
+// A line after the first three. The client's buffer stands beside a call, and beside a walk, whose page it is.
 #[derive(Clone, Copy)]
 pub enum Line {
     Call(Call),
@@ -260,6 +264,18 @@ fn state_put(mut words: Words) -> Result<Line, Fault>
     })))
 }
 
+// A page of at most 4,096 bytes.
+fn walk<const SIZE: usize>(mut words: Words, page: &mut Buffer<SIZE>) -> Result<Line, Fault>
+    ensures { length (words_left words.entry.rest) ≤ 1
+        → IfOk result (λ line. Spells (codes "walk" ∷ words_left words.entry.rest) line (take page.new.len page.new.bytes)) }
+{
+    words.bytes(page)?;
+    if 4096 < page.as_slice().len() {
+        return Err(Fault::Bytes);
+    }
+    Ok(Line::Other(Other::Walk))
+}
+
 // A line after the first three, of which the words after its name are given. BYTES go to the client's buffer.
 pub fn parse_line<const SIZE: usize>(
     name: Name,
@@ -284,5 +300,6 @@ pub fn parse_line<const SIZE: usize>(
         Name::Survey => Ok(Line::Other(Other::Survey(words.at_most(1)?.number_up_to(4096)?))),
         Name::Volume => words.at_most(0).map(|_| Line::Other(Other::Volume)),
         Name::State => state_put(words.at_most(5)?),
+        Name::Walk => walk(words.at_most(1)?, client),
     }
 }
