@@ -36,8 +36,9 @@ pub enum Kind {
     SyncComplete,
     /// A sync of an empty page, which asks for nothing.
     SyncEmpty,
-    /// A restart on a full volume.
+    /// A restart on a full volume; and on one whose newest page is full of entries of 1 byte, the most that the walk can meet.
     Restart,
+    RestartOnes,
     /// A survey of a volume that was gone around one and a half times, and of one whose IDs fall by slot.
     Survey,
     SurveyFalling,
@@ -47,7 +48,7 @@ pub struct Row {
     pub kind: Kind,
     pub page_size: usize,
     pub page_count: usize,
-    /// The bytes of data of an entry; in a restart, the bytes of an entry on flash.
+    /// The bytes of data of an entry; in a restart, the bytes of an entry on flash (of other pages than a newest one with entries of 1 byte).
     pub data: usize,
     /// The bytes that are left in the page when it is flushed.
     pub left: usize,
@@ -80,6 +81,11 @@ const fn row(
 /// The logs of a row whose calls can't be repeated at once.
 const MANY: usize = 32;
 
+/// A restart's newest page.
+pub const FULL: &str = "full";
+pub const PADDED: &str = "padded";
+pub const FULL_OF_ONES: &str = "full of 1-byte entries";
+
 /// Pages of 512 bytes hold 7 entries of 64 bytes on every side.
 const PAGE_ENTRIES: usize = 7;
 
@@ -99,11 +105,11 @@ pub fn rows() -> Vec<Row> {
         row(Sync, (512, 4), 64, 32, MANY, 1),
         row(SyncEmpty, (512, 4), 0, 0, 1, 100),
     ];
-    for left in [0, 16] {
+    for (kind, left) in [(Restart, 0), (Restart, 16), (RestartOnes, 0)] {
         for page_size in [512, 4096] {
             for page_count in [64, 1024, 4096] {
                 let times = 4096 / page_count;
-                rows.push(row(Restart, (page_size, page_count), 72, left, 1, times));
+                rows.push(row(kind, (page_size, page_count), 72, left, 1, times));
             }
         }
     }
@@ -147,16 +153,35 @@ impl Row {
             Kind::SyncAlone => format!("sync, {left} bytes padded"),
             Kind::SyncComplete => "its write completion, page full".into(),
             Kind::SyncEmpty => "sync of an empty page".into(),
-            Kind::Restart => {
-                let newest = if left == 0 { "full" } else { "padded" };
-                format!(
-                    "restart, P = {page}, N = {}, newest page {newest}",
-                    self.page_count
-                )
+            Kind::Restart | Kind::RestartOnes => {
+                let (count, newest) = (self.page_count, self.newest());
+                format!("restart, P = {page}, N = {count}, newest page {newest}")
             }
             Kind::Survey => format!("survey, N = {}, wrapped", self.page_count),
             Kind::SurveyFalling => format!("survey, N = {}, IDs fall by slot", self.page_count),
         }
+    }
+
+    /// The newest page of a restart, in words.
+    pub fn newest(&self) -> &'static str {
+        match (self.kind, self.left) {
+            (Kind::RestartOnes, _) => FULL_OF_ONES,
+            (_, 0) => FULL,
+            _ => PADDED,
+        }
+    }
+
+    /// How many entries the newest page of a restart has, with words of so many bytes.
+    pub fn newest_entries(&self, word: usize) -> usize {
+        match self.kind {
+            Kind::RestartOnes => (self.page_size - word) / (word + 1),
+            _ => self.page_entries(),
+        }
+    }
+
+    /// How many entries every other page has: as many on all sides.
+    fn page_entries(&self) -> usize {
+        self.page_size / self.data
     }
 
     /// A name for the command line.
@@ -177,6 +202,11 @@ impl Row {
         )
     }
 
+    /// Whether it is a restart.
+    pub fn is_restart(&self) -> bool {
+        matches!(self.kind, Kind::Restart | Kind::RestartOnes)
+    }
+
     /// Whether it is a survey, which `Log` has not.
     pub fn is_survey(&self) -> bool {
         matches!(self.kind, Kind::Survey | Kind::SurveyFalling)
@@ -191,7 +221,8 @@ impl Row {
     fn reports(&self) -> usize {
         use Kind::*;
         match self.kind {
-            FlushAppend | ReadAlone | SyncAlone | SyncEmpty | Restart | Survey | SurveyFalling => 0,
+            FlushAppend | ReadAlone | SyncAlone | SyncEmpty | Restart | RestartOnes | Survey
+            | SurveyFalling => 0,
             _ => self.calls(),
         }
     }
@@ -207,7 +238,7 @@ impl Row {
         let log = &mut side;
         match self.kind {
             SyncEmpty => (),
-            Restart => self.fill_volume(log),
+            Restart | RestartOnes => self.fill_volume(log),
             Survey => (0..self.page_count * 3 / 2).for_each(|_| next_page(log, self.data)),
             SurveyFalling => fall(log, self.page_count),
             Sync | SyncAlone | SyncComplete => {
@@ -230,18 +261,31 @@ impl Row {
         (0..self.page_count + 2).for_each(|_| next_page(log, length));
     }
 
-    /// One and a half times around the volume, and the last page is written too. All sides have as many entries in a page, each as long on flash,
-    /// but for the last one of a page: it leaves `left` bytes.
+    /// One and a half times around the volume, and the last page is written too: a restart finds the log's end where it is. All sides have as many
+    /// entries in a page, each as long on flash, but for the last one of a page, which leaves `left` bytes, and for a newest page of 1-byte entries.
     fn fill_volume<S: Side>(&self, log: &mut S) {
-        let entries = self.page_size / self.data;
-        for page in 0..self.page_count * 3 / 2 {
-            for _ in 1..entries {
-                store(log, self.data - S::WORD);
-            }
-            fill_page(log, self.left);
-            assert!(log.end() == (page + 1) * self.page_size - self.left);
+        let newest = self.page_count * 3 / 2 - 1;
+        for page in 0..newest {
+            self.fill_one(log, page, self.page_entries(), self.data - S::WORD);
         }
+        let length = match self.kind {
+            Kind::RestartOnes => 1,
+            _ => self.data - S::WORD,
+        };
+        self.fill_one(log, newest, self.newest_entries(S::WORD), length);
         flush(log);
+        let end = log.end();
+        log.restart();
+        assert!(log.end() == end);
+    }
+
+    /// A page with so many entries of that length, but for the last one: it takes what the page has, less the `left` bytes.
+    fn fill_one<S: Side>(&self, log: &mut S, page: usize, entries: usize, length: usize) {
+        for _ in 1..entries {
+            store(log, length);
+        }
+        fill_page(log, self.left);
+        assert!(log.end() == (page + 1) * self.page_size - self.left);
     }
 
     /// Makes the logs ready for `measure`.
@@ -286,7 +330,7 @@ impl Row {
                     log.sync();
                 }
             }
-            Steady | Seek | SyncEmpty | Restart | Survey | SurveyFalling => (),
+            Steady | Seek | SyncEmpty | Restart | RestartOnes | Survey | SurveyFalling => (),
         }
     }
 
@@ -328,7 +372,7 @@ impl Row {
             }),
             SyncAlone => repeat!(logs, 1, log => log.sync()),
             SyncEmpty => repeat!(logs, times, log => log.sync()),
-            Restart => repeat!(logs, times, log => log.restart()),
+            Restart | RestartOnes => repeat!(logs, times, log => log.restart()),
             Survey | SurveyFalling => repeat!(logs, times, log => log.survey()),
         }
     }

@@ -4,6 +4,9 @@
 /// proved log with words of 8 bytes, and with words of 4.
 pub const SIDES: [&str; 3] = ["rust", "punelovash8", "punelovash"];
 
+/// The bytes of a word on each of them.
+pub const WORDS: [usize; SIDES.len()] = [8, 8, 4];
+
 /// A log that is driven. Every call is expected to be accepted: a refusal ends the program.
 ///
 /// One call of a `Side` is one call of machine code: the methods of `Log` are compiled into functions that aren't inlined, and the library's

@@ -1,8 +1,8 @@
 //! The tables, in Markdown.
 
 use crate::count;
-use crate::row::{rows, Kind, Row};
-use crate::side::SIDES;
+use crate::row::{rows, Kind, Row, FULL, FULL_OF_ONES, PADDED};
+use crate::side::{SIDES, WORDS};
 use crate::stack;
 use crate::time::{self, Spread, Times};
 use std::path::Path;
@@ -133,37 +133,56 @@ fn print_sides(title: &str, what: &str) {
     print_head(title, &[what, rust, eight, four]);
 }
 
-/// What one page more, or one byte of a page more, costs a restart, in instructions.
+/// The restart with those sizes and that newest page.
+fn restart<'a>(lines: &'a [Line], newest: &str, p: usize, n: usize) -> &'a Line {
+    let is_it = |line: &&Line| {
+        let row = &line.row;
+        row.is_restart() && (row.newest(), row.page_size, row.page_count) == (newest, p, n)
+    };
+    lines.iter().find(is_it).expect("there is such a row")
+}
+
+/// What a step costs, in instructions, with so many steps from one line to the other.
+fn print_steps(what: &str, from: &Line, to: &Line, steps: [usize; SIDES.len()]) {
+    if let (Some(from), Some(to)) = (from.instructions, to.instructions) {
+        let growth = |side| format!("{:.2}", (to[side] - from[side]) / steps[side] as f64);
+        let columns: Vec<String> = (0..SIDES.len()).map(growth).collect();
+        print_line(what, &columns);
+    }
+}
+
+/// What one page more, one byte of a page more, or one entry of the newest page more costs a restart, in instructions.
 fn print_growth(lines: &[Line]) {
     print_sides("Growth of restart, in instructions", "restart");
-    for (left, newest) in [(0, "full"), (16, "padded")] {
-        let found = |p, n| {
-            let is_it = |line: &&Line| {
-                let row = &line.row;
-                row.kind == Kind::Restart
-                    && (row.page_size, row.page_count, row.left) == (p, n, left)
-            };
-            lines.iter().find(is_it).and_then(|line| line.instructions)
-        };
-        let print = |what: String, from: Option<Numbers>, to: Option<Numbers>, steps: usize| {
-            if let (Some(from), Some(to)) = (from, to) {
-                let growth = |side| format!("{:.2}", (to[side] - from[side]) / steps as f64);
-                let columns: Vec<String> = (0..SIDES.len()).map(growth).collect();
-                print_line(&format!("{what}, newest page {newest}"), &columns);
-            }
-        };
+    let each = |steps: usize| [steps; SIDES.len()];
+    for newest in [FULL, PADDED, FULL_OF_ONES] {
+        let of = |p, n| restart(lines, newest, p, n);
         for p in [512, 4096] {
             for (n, more) in [(64, 1024), (1024, 4096)] {
                 let what = format!("a page more, P = {p}, N from {n} to {more}");
-                print(what, found(p, n), found(p, more), more - n);
+                let what = format!("{what}, newest page {newest}");
+                print_steps(&what, of(p, n), of(p, more), each(more - n));
             }
         }
         for n in [64, 1024, 4096] {
-            let what = format!("a byte more, N = {n}, P from 512 to 4,096");
-            print(what, found(512, n), found(4096, n), 4096 - 512);
+            let what = format!("a byte more, N = {n}, P from 512 to 4,096, newest page {newest}");
+            print_steps(&what, of(512, n), of(4096, n), each(4096 - 512));
         }
     }
+    print_entry_growth(lines);
     println!();
+}
+
+/// Between the rows with the newest page full, the entries of that page alone differ.
+fn print_entry_growth(lines: &[Line]) {
+    for p in [512, 4096] {
+        for n in [64, 1024, 4096] {
+            let [few, many] = [FULL, FULL_OF_ONES].map(|newest| restart(lines, newest, p, n));
+            let more = |word| many.row.newest_entries(word) - few.row.newest_entries(word);
+            let what = format!("an entry more, P = {p}, N = {n}, newest page full");
+            print_steps(&what, few, many, WORDS.map(more));
+        }
+    }
 }
 
 /// What one page more costs a survey, in instructions.
