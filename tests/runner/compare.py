@@ -9,8 +9,8 @@ from .sizes import Sizes
 from .trace import first_difference, parse
 
 # A script on which the sides differ: the line of the script (counted from 0), what each side wrote there, and how the program ended if not well.
-# With `book`, the other side is the page book.
-Difference = namedtuple("Difference", "lines at oracle other ended book", defaults=[False])
+# With `book`, the other side is the page book. `names` are the sides' names.
+Difference = namedtuple("Difference", "lines at oracle other ended book names", defaults=[False, ("the oracle", "the program")])
 
 
 def compare(program, lines, trace):
@@ -30,7 +30,7 @@ def against_book(lines, trace, met):
     if found is None:
         return None
     at, says = found
-    return Difference(lines, at + 2, trace[at], says, None, True)
+    return Difference(lines, at + 2, trace[at], says, None, True, ("the oracle", "the book"))
 
 
 def text_at(trace, at):

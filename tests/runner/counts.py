@@ -1,4 +1,4 @@
-"""What a run has met: calls, answers, reports, refused erases, pages written, laps, cuts and restarts."""
+"""What a run has met: calls, answers, reports, refused erases, pages written, laps, cuts and restarts, pages walked."""
 
 from collections import Counter
 
@@ -6,6 +6,7 @@ from .flash import LEFT, Flash, erase_refused
 from .oracles import turned_down
 from .sizes import Sizes
 from .trace import parse
+from .walks import ENDINGS
 
 RESULTS = {"0": "OK", "1": "FAIL", "2": "BUSY", "8": "CANCEL"}
 
@@ -56,6 +57,14 @@ class Counts:
         self.book = Counter()  # of the lists that the page book speaks of
         self.written = 0
         self.laps = 0
+        self.walks = Counter()  # of pages given alone, by how they ended
+        self.restarts = Counter()  # the same of those pages on which the Rust restarted too
+        self.words = 0  # that those walks read
+
+    def take_walk(self, walk, with_rust):
+        self.walks[walk.ending] += 1
+        self.restarts[walk.ending] += with_rust
+        self.words += walk.words
 
     def take(self, lines, trace, kind):
         """A script: its lines from `sizes` on, with a line of trace for each from the third."""
@@ -110,6 +119,9 @@ class Counts:
         self.book += other.book
         self.written += other.written
         self.laps += other.laps
+        self.walks += other.walks
+        self.restarts += other.restarts
+        self.words += other.words
 
     def calls(self):
         """How many calls were made and compared."""
@@ -125,6 +137,14 @@ class Counts:
         """The same of lists with cuts."""
         missing = [name for name in CUTS if not self.cuts[name]] + [f"{name} of the book" for name in BOOK if not self.book[name]]
         return missing + ["a lap"] * (not self.laps)
+
+    def missing_walks(self):
+        """The same of pages walked: the ways in which a walk ends, the Rust's too."""
+        alone = [ending for ending in ENDINGS if not self.walks[ending]]
+        return alone + [f"{ending} with the Rust" for ending in ENDINGS if not self.restarts[ending]]
+
+    def walked(self):
+        return f"{self.walks.total()} pages, {self.words} length words"
 
     def __str__(self):
         calls, numbers = Counter(), Counter()
@@ -144,6 +164,9 @@ class Counts:
             f"laps: {self.laps}",
             "cuts and restarts: " + (listed((name, self.cuts[name]) for name in CUTS if self.cuts[name]) or "none"),
             "the page book: " + (listed((name, self.book[name]) for name in BOOK if self.book[name]) or "nothing"),
+            f"walked alone: {self.walked()}",
+            "ended at: " + (listed((name, self.walks[name]) for name in ENDINGS if self.walks[name]) or "nothing"),
+            "with the Rust: " + (listed((name, self.restarts[name]) for name in ENDINGS if self.restarts[name]) or "nothing"),
         ])
 
 

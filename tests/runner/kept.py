@@ -1,6 +1,6 @@
 """Scripts that are kept in files, with what is wanted of them in comments.
 
-    # want: answer 0, A 32          fields of the trace line of the call above, on every side that runs the script
+    # want: answer 0, A 32          fields of the trace line of the call above, on every side that runs it
     # rust: panic                   outside the domain: what the Rust does there (fields, `panic`, or `endless`)
     # the Rust: reads on ..         the same in words
 """
@@ -10,6 +10,7 @@ import sys
 
 from .trace import parse
 
+ALONE = ("walk",)  # lines that the Rust doesn't have, and that change nothing: the program alone runs them
 TESTS = pathlib.Path(__file__).resolve().parents[1]
 FIELDS = ("answer", "report", "request", "state", "O", "R", "A", "kept", "page", "hold", "buffer")
 
@@ -21,14 +22,36 @@ def scripts_in(folder, width):
 
 
 class Kept:
+    """A kept script: the whole, which the program runs, and what the oracle runs of it."""
+
     def __init__(self, path):
         self.name = path.stem
         self.text = path.read_text()
+        lines = self.text.splitlines()
+        self.whole = Script(self.name, lines)
+        self.shared = Script(self.name, shared_lines(lines))
+
+
+def shared_lines(lines):
+    """Leaves out each line that the program alone runs, and the comments below it."""
+    shared = True
+    for line in lines:
+        if line and not line.startswith("#"):
+            shared = line.split(" ")[0] not in ALONE
+        if shared:
+            yield line
+
+
+class Script:
+    def __init__(self, name, lines):
+        self.name = name
+        self.text = ""
         self.lines = []  # without comments
         self.wants = []  # (index in the trace, field, value)
         self.rust = []
         self.words = ""
-        for number, line in enumerate(self.text.splitlines(), 1):
+        for number, line in enumerate(lines, 1):
+            self.text += line + "\n"
             if line.startswith("# want: "):
                 self.wants += self.wanted(line[8:], number)
             elif line.startswith("# rust: "):

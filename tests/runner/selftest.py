@@ -14,6 +14,7 @@ from .oracles import turned_down
 from .sides import Program
 from .sizes import WIDTHS, Sizes
 from .trace import BUSY, OK, first_difference, parse, same
+from .walks_selftest import walks_selftest
 
 BOOK_LISTS = 500  # at most so many lists with cuts for the page book's part
 
@@ -258,11 +259,27 @@ def check_wants(failures):
         path.write_text("sizes\nvolume\nrestart\n# want: A 4, state idle\nread\n# want: answer 0, A 41\n# rust: panic\n")
         kept = Kept(path)
         trace = ["restart 0 - - ? 4 4 4 ? - ?", ORACLE]
-        check(failures, "wants that are met", unmet(kept.wants, kept.lines, trace, None) == [])
-        check(failures, "wants that are not met", len(unmet(kept.wants, kept.lines, trace[:1] * 2, None)) == 1)
-        check(failures, "wants on a trace too short", len(unmet(kept.wants, kept.lines, trace[:1], None)) == 2)
-        check(failures, "a panic wanted", len(unmet(kept.rust, kept.lines, trace, None)) == 1)
-        check(failures, "a panic found", unmet(kept.rust, kept.lines, [trace[0], "panic read"], None) == [])
+        whole = kept.whole
+        check(failures, "wants that are met", unmet(whole.wants, whole.lines, trace, None) == [])
+        check(failures, "wants that are not met", len(unmet(whole.wants, whole.lines, trace[:1] * 2, None)) == 1)
+        check(failures, "wants on a trace too short", len(unmet(whole.wants, whole.lines, trace[:1], None)) == 2)
+        check(failures, "a panic wanted", len(unmet(whole.rust, whole.lines, trace, None)) == 1)
+        check(failures, "a panic found", unmet(whole.rust, whole.lines, [trace[0], "panic read"], None) == [])
+
+
+def check_alone(failures):
+    with tempfile.TemporaryDirectory() as folder:
+        path = pathlib.Path(folder, "case.script")
+        path.write_text("sizes\nvolume\nrestart\nwalk -\n# want: line walk 4 0\nread\n# want: A 41\n")
+        kept = Kept(path)
+        walk = "walk 4 0"
+        check(failures, "the Rust has no walk", kept.shared.lines == ["sizes", "volume", "restart", "read"])
+        whole, trace = kept.whole, ["restart 0 - - ? 4 4 4 ? - ?", walk, ORACLE]
+        check(failures, "a walk as wanted", unmet(whole.wants, whole.lines, trace, None) == [])
+        check(failures, "another walk", len(unmet(whole.wants, whole.lines, [trace[0], "walk 4 1", ORACLE], None)) == 1)
+        shared = kept.shared
+        check(failures, "what follows a walk", unmet(shared.wants, shared.lines, [trace[0], ORACLE], None) == [])
+        check(failures, "another line behind a walk", len(unmet(shared.wants, shared.lines, trace[:1] * 2, None)) == 1)
 
 
 def cut_list(sizes, *changes):
@@ -530,7 +547,7 @@ def book_selftest(scripts):
 def selftest():
     """What went wrong, in words."""
     failures = []
-    for part in (check_lines, check_traces, check_programs, check_alter, check_shrinking, check_wants):
+    for part in (check_lines, check_traces, check_programs, check_alter, check_shrinking, check_wants, check_alone):
         part(failures)
     for part in (
         check_sizes, check_domain, check_ceiling, check_reads, check_next_entry, check_walk, check_cuts_in_domain, check_refusals, check_cut_counts,
@@ -538,4 +555,4 @@ def selftest():
     ):
         for width in WIDTHS:
             part(failures, width)
-    return failures
+    return failures + [failure for width in WIDTHS for failure in walks_selftest(width)]
