@@ -62,7 +62,7 @@ fn whole(on: &Cases<impl Print>) -> io::Result<()> {
     show(on, "walk of an erased page", walk(board, &[255; 64]))
 }
 
-// All of these: then length words of every kind after an entry, and slices that are no page.
+// All of these, length words of every kind after an entry, and slices that are no page.
 pub(crate) fn cases(on: &Cases<impl Print>) -> io::Result<()> {
     whole(on)?;
     let board = on.board;
