@@ -15,7 +15,7 @@ use Rattle.engine_call.specs.Outcome.{Lent, Done, first_of}
 use Rattle.engine_call.proofs.Checks.{through}
 use Rattle.engine_read.specs.Read.{read_runs}
 use Rattle.engine_read.specs.Seek.{seek_checks, seek_runs}
-use Rattle.engine_read.proofs.ReadLaws.{next_below}
+use Rattle.page_lookup.proofs.Places.{next_at}
 use Rattle.engine_laws.proofs.ReadRows.{Reads, beyond, unset, at_end, bad_header, entry_too_long, good, read_runs_lem}
 use Rattle.engine_laws.proofs.StateKit.{LeavesState, moved_fits, oldest_kept}
 
@@ -35,7 +35,7 @@ read_fits l z s x n = go (read_runs_lem l x n)
         let p : ℕ = l.setup.p in
         let d = parts id f.page in
         let t = lengthy l.setup.w p l.append x.volume x.page id i in
-        let below = next_below l.setup.w p l.append x.volume x.page l.read e in
+        let below = (next_at l.setup.w p l.append x.volume x.page l.read e).below in
         let top : id / p * p + p ≤ ceiling l.setup.w = f.ceiling_page (id / p) (omega (arith, s.limited)) in
         moved_fits s Read (oldest_kept s) (id + l.setup.w + size) size (omega arith) t.most refl
 
