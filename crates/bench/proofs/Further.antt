@@ -3,7 +3,7 @@ use Prim.Native.Nat.{ℕ, ◌*◌, ◌≤◌, ◌<◌}
 use mathlib.Core.Path.{◌≡◌, refl, sym, ap, ◌∙◌, subst}
 use mathlib.Core.Bool.{Bool, true, false, true≢false, not, ◌&&◌, ◌||◌}
 use mathlib.Core.List.{List, [], ◌∷◌}
-use mathlib.Core.Option.{Option, none, some}
+use mathlib.Core.Option.{Option, none, some, some-injective}
 use native.Mathlib.Omega.{arith}
 use lib.ListN.{length}
 use lib.Dec.{eqb}
@@ -13,19 +13,24 @@ use Rattle.page.specs.Slots.{slot_bytes}
 use Rattle.page.specs.Header.{header}
 use Rattle.page.specs.Layout.{whole_page}
 use Rattle.page.specs.Answered.{FAIL}
-use Rattle.engine_state.specs.Answer.{OK, CANCEL, Report, no_report, append_done, sync_done, erase_done, read_done, seek_done}
+use Rattle.engine_state.specs.Answer.{OK, CANCEL, SHAPE, Report, no_report, append_done, sync_done, erase_done, read_done, seek_done}
 use Rattle.engine_state.specs.Log.{Setup, State, Append, Sync, Erase, Log, is}
-use Rattle.engine_state.specs.Check.{Sized}
+use Rattle.engine_state.specs.Check.{Sized, shape_fits}
 use Rattle.engine_state.specs.Open.{may_open}
-use Rattle.engine_call.specs.Outcome.{Lent, Done, first_of, ◌or_else◌, unless}
+use Rattle.engine_call.specs.Outcome.{Lent, Done, lend, first_of, ◌or_else◌, unless}
 use Rattle.engine_call.specs.Call.{append_data, Completion, write_ended, erase_ended, ends_well}
-use Rattle.engine_call.specs.Gate.{gate, unless_writing}
+use Rattle.engine_call.specs.Gate.{gate_by, gate, unless_writing}
+use Rattle.engine_restart.specs.Restart as log
+use Rattle.engine_restart.specs.Restart.{Restarted, RestartDone, started_from, headers}
+use Rattle.engine_restart.proofs.Restarts.{started_log}
 use Rattle.engine_write.specs.Store.{store}
 use Rattle.engine_write.specs.WriteComplete.{opens_next, not_stored, sync_done_of, append_written, sync_written, write_runs, write_complete}
 use Rattle.engine_laws.specs.Call.{unless_due}
+use Rattle.engine_marks.specs.Entries.{pages_gate}
 use Rattle.bench_flash.specs.Flash.{Operation, no_operation, writing, erasing, Left, old, blank, new, left_after}
-use Rattle.bench_flash.specs.Event.{Event, call, completion, cut, restart}
-use Rattle.bench.specs.World.{World, lent_by, Told, Step, ended_by, ending, ends, step_on, step_off, step}
+use Rattle.bench_flash.specs.Event.{Restart, Event, call, completion, cut, restart}
+use Rattle.bench.specs.World.{World, lent_by, Ended, unended, Told, Step, ended_by, ending, ends, restarted_world, restart_number, restart_step}
+use Rattle.bench.specs.World.{step_on, step_off, step}
 use Rattle.bench.specs.Book.{Page, Book, empty_page, slot_left, left_in, fills, next_page, append_reported, erase_reported, entry_of, joins, is_ok, waits}
 use Rattle.bench.specs.Book.{asked, opens, emptied, pages, newest, reopened, sync_reported, fed, recorded}
 use Rattle.bench.specs.Promise.{Bench, stepped, stepped_all, Clear, AllClear, NoHeader, start}
@@ -34,7 +39,7 @@ use Rattle.bench.proofs.BookSteps.{slot_other}
 use Rattle.bench.proofs.RestartKeeps.{has_its_number, slot_holds}
 use Rattle.bench.proofs.Gates.{gate_passes}
 use Rattle.bench.proofs.Appends.{may_next}
-use Rattle.bench.proofs.Theorem.{step_keeps, list_inv, start_inv}
+use Rattle.bench.proofs.Theorem.{step_keeps, list_inv, start_inv, further_inv}
 
 -- what holds of both holds of the one that is picked
 of_pick : {A : Type 0} (P : A → Type 0) (t : Bool) {a c : A} → P a → P c → P (pick t a c)
@@ -297,3 +302,31 @@ module _ {g : Setup} (slot : ℕ) (l : slot < g.n) where
   survives_all s i [] clear spare k is = kept s i k is
   survives_all s i (e ∷ es) clear spare k is =
       survives_all (stepped g s e) (step_keeps s i e clear.0).keeps es clear.1 spare.1 k (survives s i e clear.0 spare.0 k is).there
+
+-- a restart that is answered OK leaves the power on
+restart_on : (g : Setup) (x : World) (ended : Ended) (r : Restart) → let t : Step = restart_step g x ended r in
+    t.told.answer ≡ some OK → t.world.power ≡ true
+unfolding log.restart
+restart_on g x ended r =
+    let lent : Lent = lend x.volume r.page r.hold in
+    let found = headers g x.volume in
+    let done : RestartDone = started_from g r.read_client r.append_client lent found in
+    of_pick (λ (d : RestartDone). some (restart_number d.answer) ≡ some OK → (restarted_world x d.page r.hold d.answer).power ≡ true)
+    (shape_fits g (length x.volume) (length r.page) (length r.hold))
+    (λ e. ap (λ (a : Restarted). (restarted_world x done.page r.hold a).power) (started_log g r.read_client r.append_client lent found))
+    (λ e. let z = some-injective SHAPE OK e in absurd (omega arith))
+
+-- after every list and a further restart that is answered OK, the gate passes with P in place of the hold buffer's length: a search gets no hold buffer
+pub search_gate_open : (g : Setup) (l : Log) (volume page hold : List ℕ) → NoHeader g volume → (es : List Event) → AllClear g (start l volume page hold) es
+    → (r : Restart) → let s : Bench = stepped_all g (start l volume page hold) es in let x : World = (stepped g s (restart r)).world in
+    (step g s.world (restart r)).told.answer ≡ some OK → pages_gate x.log x.volume x.page ≡ none
+unfolding step
+search_gate_open g l volume page hold none-valid es clear r ok =
+    let s : Bench = stepped_all g (start l volume page hold) es in
+    let x : World = (stepped g s (restart r)).world in
+    let on =
+    of_pick (λ (t : Step). t.told.answer ≡ some OK → t.world.power ≡ true) s.world.power
+    (restart_on g (ending g.p s.world false r.left) (ended_by s.world.operation r.left) r) (restart_on g s.world unended r) ok in
+    let i = (step_keeps s (further_inv g l volume page hold none-valid es clear r ok) (restart r) tt).keeps in
+    let q = subst (Powered g x (stepped g s (restart r)).book) on i.powered in
+    subst (λ k. gate_by x.log (length x.volume) (length x.page) k ≡ none) (q.hold_length ∙ ap (λ (h : Setup). h.p) (sym q.setup)) (gate_open i on)

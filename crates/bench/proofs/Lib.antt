@@ -5,8 +5,8 @@ pub mod BookSteps
 pub mod Gates
 pub mod Quiet
 pub mod RestartKeeps
-pub mod EntryReads
 pub mod PageReads
+pub mod EntryReads
 pub mod Reading
 pub mod Appends
 pub mod Flushes
@@ -20,4 +20,5 @@ pub mod RestartStep
 pub mod Theorem
 pub mod Boards
 pub mod Further
+pub mod Searches
 pub mod Cases

@@ -12,13 +12,14 @@ use Rattle.engine_state.specs.Check.{shape_fits}
 use Rattle.engine_call.specs.Outcome.{Lent, lend}
 use Rattle.engine_restart.specs.Restart.{Restarted, refused, RestartDone, started_from, headers, restart}
 use Rattle.engine_restart.proofs.Restarts.{started_log}
+use Rattle.engine_marks.specs.Entries.{log_entries}
 use Rattle.bench_flash.specs.Event.{Restart}
 use Rattle.bench.specs.World.{World, lent_by, restarted_world, restart_number}
 use Rattle.bench.specs.Book.{Book, restarted}
-use Rattle.bench.specs.Promise.{ReadsOn, book_entries, Bench, Finds}
+use Rattle.bench.specs.Promise.{book_placed, book_entries, ReadsOn, Bench, Finds}
 use Rattle.bench.proofs.Invariant.{Books, Inv}
 use Rattle.bench.proofs.RestartKeeps.{Recovers, restored}
-use Rattle.bench.proofs.Reading.{reads_on}
+use Rattle.bench.proofs.Reading.{entries_found, reads_on}
 
 -- what it has found is what is promised
 promised : {g : Setup} {x : World} {b : Book} → Recovers g x b → Finds g (record { world = x; book = b })
@@ -26,8 +27,9 @@ promised {g} {x} {b} q = record {
   oldest = q.oldest;
   read = q.read;
   append = q.running.buffer.appends;
-  entries = λ client.
-      subst (λ (h : Setup). Recovers h x b → ReadsOn (lent_by x) x.log (book_entries h b)) q.running.setup (λ q'. reads_on q' client) q;
+  placed_entries = subst (λ (h : Setup). Recovers h x b → log_entries x.log x.volume x.page ≡ book_placed h b) q.running.setup (λ q'. entries_found q') q;
+  entries =
+      subst (λ (h : Setup). Recovers h x b → x.log.read_client ≡ true → ReadsOn (lent_by x) x.log (book_entries h b)) q.running.setup (λ q'. reads_on q') q;
 }
 
 -- what a restart with an answer gives: the invariant, and what it finds

@@ -3,6 +3,7 @@ use Prim.Native.Nat.{ℕ, ◌*◌, ◌≤◌}
 use mathlib.Core.Path.{◌≡◌, refl, sym, ap, ◌∙◌, subst}
 use mathlib.Core.Bool.{Bool, true, false, true≢false}
 use mathlib.Core.List.{List, [], ◌∷◌, ◌++◌}
+use mathlib.Core.Logic.{◌⊎◌, inl, inr, ⊎_elim}
 use mathlib.Core.Option.{Option, none, some, some-injective}
 use native.Mathlib.Omega.{arith}
 use lib.ListN.{length}
@@ -129,11 +130,19 @@ dead_list : {g : Setup} (s : Bench) → Dead g s.world → (es : List Event) →
 dead_list s d [] = tt
 dead_list {g} s d (e ∷ es) = let k = dead_step s d e in (k.0, dead_list (stepped g s e) k.1 es)
 
--- Demand 3. For every setup, volume with no valid header, starting buffers and list of events in which no entry's length hides it:
--- every restart that isn't refused finds exactly the book's O and A, and reading on from O gives exactly the book's entries.
-pub promise : (g : Setup) (l : Log) (volume page hold : List ℕ) → NoHeader g volume → (es : List Event) → AllClear g (start l volume page hold) es
-    → AllPromised g (start l volume page hold) es
-promise g l volume page hold none-valid es clear = go (shape_fits g (length volume) g.p g.p) refl
+-- and a further restart after every list is refused
+dead_refuses : {g : Setup} (s : Bench) → Dead g s.world → (es : List Event) → (r : Restart)
+    → (step g (stepped_all g s es).world (restart r)).told.answer ≡ some OK → ⊥
+unfolding log.restart
+dead_refuses {g} s d [] r =
+    rw (step_off_lem g s.world (restart r) d.off, d.unfit (length r.page) (length r.hold))
+    (λ i. let z = some-injective SHAPE OK i in omega arith)
+dead_refuses {g} s d (e ∷ es) r = dead_refuses (stepped g s e) (dead_step s d e).1 es r
+
+-- where a list begins, the invariant holds or every restart is refused
+begins : (g : Setup) (l : Log) (volume page hold : List ℕ) → NoHeader g volume → let s : Bench = start l volume page hold in
+    Inv g s.world s.book ⊎ Dead g s.world
+begins g l volume page hold none-valid = go (shape_fits g (length volume) g.p g.p) refl
   where
     unfit : shape_fits g (length volume) g.p g.p ≡ false → (page' hold' : ℕ) (t : Bool) → shape_fits g (length volume) page' hold' ≡ t → t ≡ false
     unfit d page' hold' false e = refl
@@ -141,11 +150,26 @@ promise g l volume page hold none-valid es clear = go (shape_fits g (length volu
         let z = shape_fits_lem g (length volume) page' hold' e in
         absurd (true≢false (sym (rw (z.buffer, z.held) at e) ∙ d))
 
-    go : (t : Bool) → shape_fits g (length volume) g.p g.p ≡ t → AllPromised g (start l volume page hold) es
+    go : (t : Bool) → shape_fits g (length volume) g.p g.p ≡ t → let s : Bench = start l volume page hold in Inv g s.world s.book ⊎ Dead g s.world
     go true e =
         let z = shape_fits_lem g (length volume) g.p g.p e in
-        list_keeps (start l volume page hold) (start_inv g l volume page hold z.sizes z.first z.whole none-valid) es clear
-    go false d = dead_list (start l volume page hold) (record { off = refl; unfit = λ page' hold'. unfit d page' hold' _ refl }) es
+        inl (start_inv g l volume page hold z.sizes z.first z.whole none-valid)
+    go false d = inr (record { off = refl; unfit = λ page' hold'. unfit d page' hold' _ refl })
+
+-- Demand 3. For every setup, volume with no valid header, starting buffers and list of events in which no entry's length hides it:
+-- every restart that isn't refused finds exactly the book's O and A, and reading on from O gives exactly the book's entries.
+pub promise : (g : Setup) (l : Log) (volume page hold : List ℕ) → NoHeader g volume → (es : List Event) → AllClear g (start l volume page hold) es
+    → AllPromised g (start l volume page hold) es
+promise g l volume page hold none-valid es clear =
+    ⊎_elim (λ i. list_keeps (start l volume page hold) i es clear) (λ d. dead_list (start l volume page hold) d es) (begins g l volume page hold none-valid)
+
+-- where a further restart after the list is answered OK, the invariant holds after the list
+pub further_inv : (g : Setup) (l : Log) (volume page hold : List ℕ) → NoHeader g volume → (es : List Event) → AllClear g (start l volume page hold) es
+    → (r : Restart) → let s : Bench = stepped_all g (start l volume page hold) es in
+    (step g s.world (restart r)).told.answer ≡ some OK → Inv g s.world s.book
+further_inv g l volume page hold none-valid es clear r ok =
+    ⊎_elim (λ i. list_inv (start l volume page hold) i es clear) (λ d. absurd (dead_refuses (start l volume page hold) d es r ok))
+    (begins g l volume page hold none-valid)
 
 -- a further restart after the list
 pub further : (g : Setup) (l : Log) (volume page hold : List ℕ) → NoHeader g volume → (es : List Event) → AllClear g (start l volume page hold) es

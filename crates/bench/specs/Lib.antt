@@ -2,3 +2,4 @@
 pub mod World
 pub mod Book
 pub mod Promise
+pub mod Searches

@@ -12,6 +12,7 @@ use Rattle.engine_state.specs.Log.{Setup, Log}
 use Rattle.engine_call.specs.Outcome.{Lent, Done}
 use Rattle.engine_read.specs.Read.{read, read_buffer}
 use Rattle.engine_read.specs.Deferred.{deferred}
+use Rattle.engine_marks.specs.Entries.{Entry, log_entries, contents}
 use Rattle.bench_flash.specs.Event.{Event, call, completion, cut, restart}
 use Rattle.bench.specs.World.{World, lent_by, step, before}
 use Rattle.bench.specs.Book.{Page, Book, pages, least, empty_book, entry_of, recorded}
@@ -28,26 +29,35 @@ book_oldest g b = oldest_found g (least (pages g.n b.slots))
 abbrev pub book_append : Setup → Book → ℕ
 book_append g b = first_id g.p b.open_page.number + page_length g.w b.open_page.entries
 
+-- the entries of a page from an ID on: "An entry's ID is that of its length word"
+abbrev pub placed : ℕ → ℕ → List (List ℕ) → List Entry
+placed w id [] = []
+placed w id (e ∷ es) = record { id = id; bytes = e } ∷ placed w (id + w + length e) es
+
 -- the entries of the page with a number, if the book has it
-abbrev pub of_page : ℕ → Option Page → Option (List (List ℕ))
-of_page m none = none
-of_page m (some k) = pick (eqb k.number m) (some k.entries) none
+abbrev pub of_page : Setup → ℕ → Option Page → Option (List Entry)
+of_page g m none = none
+of_page g m (some k) = pick (eqb k.number m) (some (placed g.w (first_id g.p k.number + g.w) k.entries)) none
 
 -- "The entries are those of the least page, then of each next number until one is missing."; no more than N pages are in the book
-abbrev pub and_then : Option (List (List ℕ)) → List (List ℕ) → List (List ℕ)
+abbrev pub and_then : Option (List Entry) → List Entry → List Entry
 and_then none es = []
 and_then (some ks) es = ks ++ es
 
-abbrev pub entries_from : ℕ → (ℕ → Option Page) → ℕ → ℕ → List (List ℕ)
-entries_from n slots zero m = []
-entries_from n slots (suc more) m = and_then (of_page m (slots (slot_of n m))) (entries_from n slots more (m + 1))
+abbrev pub placed_from : Setup → (ℕ → Option Page) → ℕ → ℕ → List Entry
+placed_from g slots zero m = []
+placed_from g slots (suc more) m = and_then (of_page g m (slots (slot_of g.n m))) (placed_from g slots more (m + 1))
 
-abbrev pub entries_at : ℕ → (ℕ → Option Page) → Option ℕ → List (List ℕ)
-entries_at n slots none = []
-entries_at n slots (some m) = entries_from n slots n m
+abbrev pub placed_at : Setup → (ℕ → Option Page) → Option ℕ → List Entry
+placed_at g slots none = []
+placed_at g slots (some m) = placed_from g slots g.n m
 
+abbrev pub book_placed : Setup → Book → List Entry
+book_placed g b = placed_at g b.slots (least (pages g.n b.slots))
+
+-- the bytes of the book's entries
 abbrev pub book_entries : Setup → Book → List (List ℕ)
-book_entries g b = entries_at g.n b.slots (least (pages g.n b.slots))
+book_entries g b = contents (book_placed g b)
 
 -- "Reads use a set client, a deferred call after each, and length P with a buffer at least that long.": what a read gives, and the buffer after it
 pub record ReadEntry (d : Done) (bytes' : List ℕ) (next : Log) (e : List ℕ) : Type 0 where
@@ -95,11 +105,13 @@ abbrev pub NoHeader : Setup → List ℕ → Type 0
 NoHeader g volume = (s : ℕ) → s < g.n → header g.w g.p g.n volume s ≡ none
 
 -- what a restart that isn't refused finds: "exactly the oldest ID and the append ID that .. the page book gives.
--- Reading on from that oldest ID to the first FAIL gives exactly the book's entries"
+-- Reading on from that oldest ID to the first FAIL gives exactly the book's entries". Whatever the clients, the log's entries from O to the first FAIL
+-- are the book's, with their IDs (`placed_entries`).
 pub record Finds (g : Setup) (s : Bench) : Type 0 where
   pub oldest : s.world.log.oldest ≡ book_oldest g s.book
   pub read : s.world.log.read ≡ s.world.log.oldest
   pub append : s.world.log.append ≡ book_append g s.book
+  pub placed_entries : log_entries s.world.log s.world.volume s.world.page ≡ book_placed g s.book
   pub entries : s.world.log.read_client ≡ true → ReadsOn (lent_by s.world) s.world.log (book_entries g s.book)
 
 -- what is promised of an event, and of every event of a list: each restart that isn't refused finds what the book says
