@@ -30,6 +30,12 @@ use Rattle.punelovash_block.proofs.get.get_size.Reads as get_size
 use Rattle.punelovash8_c.proofs.get.punelovash8_get_size.Reads as get_size-c
 use Rattle.punelovash_block.proofs.restart.restart.Reads as restart
 use Rattle.punelovash8_c.proofs.restart.punelovash8_restart.Reads as restart-c
+use Rattle.punelovash_block.proofs.search.nearest.Reads as nearest
+use Rattle.punelovash8_c.proofs.search.punelovash8_nearest.Reads as nearest-c
+use Rattle.punelovash_block.proofs.search.between.Reads as between
+use Rattle.punelovash8_c.proofs.search.punelovash8_between.Reads as between-c
+use Rattle.punelovash_block.proofs.search.next_entry.Reads as next_entry
+use Rattle.punelovash8_c.proofs.search.punelovash8_next_entry.Reads as next_entry-c
 use Rattle.punelovash_block.proofs.survey.survey.Reads as survey
 use Rattle.punelovash8_c.proofs.survey.punelovash8_survey.Reads as survey-c
 
@@ -72,6 +78,15 @@ module _ {T : RattleType} (W : Ghosts T.Denot) (w : W.WIDTH ≡ 8) where
 
   pub restart_same : (L C D E F κs κs' a r s : _) → restart-c.Learnt κs a r s → restart.Learnt T L C W D E F κs' a r s
   restart_same L C D E F κs κs' a r s e = rw w e
+
+  pub nearest_same : (L C D E F κs κs' a r s : _) → nearest-c.Learnt κs a r s → nearest.Learnt T L C W D E F κs' a r s
+  nearest_same L C D E F κs κs' a r s e = rw w e
+
+  pub between_same : (L C D E F κs κs' a r s : _) → between-c.Learnt κs a r s → between.Learnt T L C W D E F κs' a r s
+  between_same L C D E F κs κs' a r s e = rw w e
+
+  pub next_entry_same : (L C D E F κs κs' a r s : _) → next_entry-c.Learnt κs a r s → next_entry.Learnt T L C W D E F κs' a r s
+  next_entry_same L C D E F κs κs' a r s e = rw w e
 
 -- the survey's words are numbers of 8 bytes
 pub survey_same : (W : Ghosts ℕ) → W.WIDTH ≡ 8 → W.value ≡ (λ x. x)

@@ -2,3 +2,4 @@
 pub mod Block
 pub mod Call
 pub mod Get
+pub mod Search

@@ -187,6 +187,20 @@ pub(crate) fn no_log<W: Word>(block: &[u8]) -> Answer
     Answer::SHAPE
 }
 
+// The same of a call that is lent a volume and two buffers.
+#[tactic(auto, using(crate::proofs::Misfits::unlent_tests), unfolding(crate::specs::Call::no_log, crate::specs::Call::misfit_by))]
+pub(crate) fn no_log_lent<W: Word>(block: &[u8], lent: LentLengths) -> Answer
+    ensures { (x : Lent) → Lengths x lent.volume lent.page lent.hold → number result ≡ no_log W.WIDTH block.now x }
+{
+    if block.len() != block_size::<W>() {
+        return Answer::STATE;
+    }
+    if fits::shape_fits(setup_at::<W>(block), lent) {
+        return Answer::STATE;
+    }
+    Answer::SHAPE
+}
+
 // The lengths of what is not lent, by a log's own sizes.
 pub(crate) fn as_if_lent(setup: Setup) -> LentLengths
     requires { Words setup.geometry }

@@ -8,4 +8,5 @@ pub mod calls;
 pub mod get;
 pub mod numbers;
 pub mod restart;
+pub mod search;
 pub mod survey;

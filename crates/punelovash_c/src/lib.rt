@@ -5,4 +5,5 @@
 pub mod calls;
 pub mod get;
 pub mod restart;
+pub mod search;
 pub mod survey;

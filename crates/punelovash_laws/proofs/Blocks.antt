@@ -20,12 +20,16 @@ use Rattle.engine_call.specs.Call.{Call, Completion}
 use Rattle.engine_restart.specs.Restart.{started, refused, RestartDone, started_from, headers, restart}
 use Rattle.engine_restart.proofs.Restarts.{log_from, restored_log, started_log}
 use Rattle.engine_restart.proofs.RestartState.{restart_fits}
+use Rattle.engine_marks.specs.Nearest.{nearest}
+use Rattle.engine_marks.specs.Between.{Stamps, between}
+use Rattle.engine_marks.specs.Reader.{reader_step}
 use Rattle.engine_laws.specs.Call.{call, complete}
 use Rattle.engine_laws.specs.Reached as log
 use Rattle.engine_laws.proofs.CallKeeps.{call_keeps, complete_keeps}
 use Rattle.engine_laws.proofs.Leaves.{Leaves, call_leaves, complete_leaves}
 use Rattle.punelovash_block.specs.Block.{block_size, setup_from, saved, sized}
 use Rattle.punelovash_block.specs.Call.{unchanged, ran, call_block, complete_block, restart_saved, restart_block}
+use Rattle.punelovash_block.specs.Search.{nearest_block, between_block, next_block}
 use Rattle.punelovash_block.proofs.RoundTrip.{HeadedBy, Small, headed, round_trip, sized_headed}
 use Rattle.punelovash_laws.specs.Reached.{Holds, HoldsStarted, ReachedBlock, restarts, calls, completes, HoldsReached}
 
@@ -54,6 +58,16 @@ module _ {w : ℕ} {block : List ℕ} {l : Log} (h : Holds w block l) where
 
   pub holds_after_completion : (x : Lent) (c : Completion) → Holds w (complete_block w block x c).block (complete l x c).outcome.log
   holds_after_completion x c = rw h.loads (ran_holds (complete l x c) (complete_leaves l x c) (complete_keeps l x c h.state))
+
+  -- a search, and a step of the reader, are those of the log that the block holds; they leave the block as it is
+  pub nearest_held : (volume page : List ℕ) (t : ℕ) → nearest_block w block volume page t ≡ nearest l volume page t
+  nearest_held volume page t = rw h.loads refl
+
+  pub between_held : (volume page : List ℕ) (r : Stamps) (ids : List ℕ) → between_block w block volume page r ids ≡ between l volume page r ids
+  between_held volume page r ids = rw h.loads refl
+
+  pub next_held : (volume page : List ℕ) (at : ℕ) → next_block w block volume page at ≡ reader_step l volume page at
+  next_held volume page at = rw h.loads refl
 
 -- the log that a restart finds has the sizes, the mode and the clients that it is given
 found_same : (s : Setup) (read_client append_client : Bool) (volume : List ℕ) (h : Option Extent)
