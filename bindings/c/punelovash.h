@@ -36,12 +36,15 @@
  * the call before left them; only a restart may get others. Whatever bytes they hold, every call is safe and ends.
  *
  * Seek, erase and the deferred call are lent the block alone, and a read no hold buffer: they read and write no byte of what
- * isn't lent. The other calls are lent all three, and look at their lengths.
+ * isn't lent. The getters are lent the block, the survey the volume, and the two searches and punelovash_next_entry block,
+ * volume and page, all of it to be read; a search needs no hold buffer. The other calls are lent volume, page and hold, and
+ * look at their lengths.
  *
  * Answers
  * -------
  * A call returns its answer and leaves in the block the log, at most one report and at most one flash request: each call
  * replaces those of the call before. "As before" is the log (the block up to PUNELOVASH_AT_REPORT) and every other byte lent.
+ * The getters, the survey, the searches and punelovash_next_entry change no byte of a block: its report and request stay too.
  *
  *     number     left behind  when
  *     0 OK
@@ -49,17 +52,20 @@
  *     2 BUSY     as before    the state isn't Idle; or the driver's word
  *     5 RESERVE  as before    the client isn't set
  *     6 INVAL    as before    a length or a seek's ID that isn't allowed
- *     7 SIZE     as before    the entry is too long for a page or for a read's length; more page IDs than a survey has room for
+ *     7 SIZE     as before    the entry is too long for a page or for a read's length; more page IDs or marks than there is room for
  *     8 CANCEL   R = O        a read with R > A
  *     20 SHAPE   as before    sizes that aren't allowed, or a volume, page or hold of another length where it is lent
  *     21 STATE   as before    the block holds no log: of another length, flags above 7, a state above 5, or IDs or a length that are no log's
  *     22 STRAY   as before    a completion or a deferred call that isn't due
  *     23 LIMIT   as before    an append that needs a page at C
+ *     24 NOMARK  as before    a search, at the first entry of the log that is no mark; it gives the entry's ID
+ *     25 NOENTRY as before    a search of a log that has no entry
+ *     26 RANGE   as before    a search whose first stamp is above its last
  *
  * What the driver's word leaves is said at each call. SHAPE, STATE and STRAY come before all else; only a block of another
  * length has no sizes that SHAPE could look at: it is STATE. A call that is refused leaves every byte of a block of another length,
  * with flags above 7 or with a state above 5, and a refused restart those of any block: from PUNELOVASH_AT_REPORT on it may still
- * be that of an earlier call. After any other refusal it says no report and no request.
+ * be that of an earlier call. After any other refusal by a call that writes the block it says no report and no request.
  *
  * How the flash is driven
  * -----------------------
@@ -120,6 +126,42 @@
  * An entry whose length has the remainder 0 or 255 by 256 may hide itself and what follows in its page from a read or a
  * restart: keep to other lengths. A page torn by a cut otherwise than said under 2 is outside of what is proved of restarts;
  * every call is still safe on it.
+ *
+ * Marks
+ * -----
+ * A mark is an entry of exactly 15 bytes. The highest byte of a number comes first:
+ *
+ *     byte     bytes
+ *     0        1         version: 1
+ *     1        2         length of what follows: 12
+ *     3        4         picture number
+ *     7        4         stamp, in seconds
+ *     11       1         turn, in quarter turns: 0 to 3
+ *     12       1 each    region, across, down
+ *
+ * It is appended, read and lost as any entry is. Two searches find marks by their stamps, which may stand in any order:
+ * punelovash_nearest the one nearest to a stamp, punelovash_between all from a first to a last stamp. Each call looks at the
+ * entries anew, from O to the first that is no mark or the first FAIL of a read, those in the page buffer too: nearest in one
+ * pass, between in two. Nothing is kept between calls. One entry that is no mark, wherever it stands and whatever the stamps
+ * asked for, makes both answer NOMARK: a log that is to be searched is for marks alone, and entries of other clients in it rule
+ * the searches out. What stands behind a blank page in the middle of the log isn't found.
+ *
+ * punelovash_next_entry goes over the entries one by one, marks or not, and moves no R:
+ *
+ *     size_t at = punelovash_log_start(block, PUNELOVASH_BLOCK_SIZE), id, length;
+ *     while (punelovash_next_entry(block, PUNELOVASH_BLOCK_SIZE, volume, L, page, P, at, &id, &length, &at) == PUNELOVASH_OK)
+ *         look_at(id, length);
+ *
+ * The entry's bytes begin at page + (id + w) % P where id / P is (A - 1) / P, and else at volume + (id + w) % L. To go on behind
+ * a blank page, let b be `at` / P rounded up: if (b + 1) * P + w is at most A, go on with `at` = (b + 1) * P.
+ *
+ * None of the three changes a byte of the block, the volume or the page buffer; `page` is lent to be read. They make no report
+ * and no request, and answer in every state and whatever the clients. While a page is being written they take its entries from
+ * the page buffer; while pages are being erased they read in O's page what the flash shows.
+ *
+ * The time of a search grows with the entries from O to A. A log on a volume that logs wrote has them in N + 1 pages at most. A
+ * block of other bytes, or a volume with page headers many laps apart, may have A far above O: then the pages are read round and
+ * round, and a search that finds nothing but marks there goes on up to A.
  */
 #ifndef PUNELOVASH_H
 #define PUNELOVASH_H
@@ -143,6 +185,9 @@ extern "C" {
 #define PUNELOVASH_STATE 21u
 #define PUNELOVASH_STRAY 22u
 #define PUNELOVASH_LIMIT 23u
+#define PUNELOVASH_NOMARK 24u
+#define PUNELOVASH_NOENTRY 25u
+#define PUNELOVASH_RANGE 26u
 
 /* The driver's word: any number but 0 and 2 is FAIL. */
 #define PUNELOVASH_WORD_OK 0u
@@ -410,6 +455,61 @@ uint32_t punelovash8_survey(uint32_t page_size, uint32_t page_count, uint32_t fi
                             const uint8_t *volume, size_t volume_length,
                             uint64_t *ids, size_t ids_length,
                             size_t *count);
+
+/*
+ * Gives the ID of the mark whose stamp differs least from `stamp`, the earlier in the log where two differ alike.
+ * Answers, in this order: SHAPE, STATE; NOMARK with the ID of the first entry that is no mark, NOENTRY (the log has no entry);
+ * then OK. After SHAPE, STATE and NOENTRY the number stays. `entry_id` is aligned as its type is.
+ */
+uint32_t punelovash_nearest(const uint8_t *block, size_t block_length,
+                            const uint8_t *volume, size_t volume_length,
+                            const uint8_t *page, size_t page_length,
+                            uint32_t stamp,
+                            size_t *entry_id);
+uint32_t punelovash8_nearest(const uint8_t *block, size_t block_length,
+                             const uint8_t *volume, size_t volume_length,
+                             const uint8_t *page, size_t page_length,
+                             uint32_t stamp,
+                             uint64_t *entry_id);
+
+/*
+ * Writes the IDs of all marks with stamps from `first` to `last`, both included, in log order to the front of `ids`, which has
+ * room for ids_length of them, and their count to `value`. The elements have 64 bits on both boards. On a volume that logs wrote
+ * (N + 1) * ((P - w) / (w + 15)) of them are always enough.
+ * Answers, in this order: SHAPE, STATE; NOMARK with the ID of the first entry that is no mark in `value`, NOENTRY (the log has
+ * no entry), RANGE (first above last), SIZE (more marks than elements); then OK. On OK the elements after the count stay;
+ * refused, all of `ids` stays, and `value` unless it is NOMARK. `ids` and `value` are aligned as their types are.
+ */
+uint32_t punelovash_between(const uint8_t *block, size_t block_length,
+                            const uint8_t *volume, size_t volume_length,
+                            const uint8_t *page, size_t page_length,
+                            uint32_t first, uint32_t last,
+                            uint64_t *ids, size_t ids_length,
+                            size_t *value);
+uint32_t punelovash8_between(const uint8_t *block, size_t block_length,
+                             const uint8_t *volume, size_t volume_length,
+                             const uint8_t *page, size_t page_length,
+                             uint32_t first, uint32_t last,
+                             uint64_t *ids, size_t ids_length,
+                             uint64_t *value);
+
+/*
+ * Gives the first entry at the ID `at` or past it: its ID, which is that of its length word, its length in bytes, and the ID
+ * after it, where the next call goes on. `at` may be any number, but should be log_start, an entry's ID, an `end` that was given,
+ * or a page's beginning: elsewhere what isn't an entry may be taken for one.
+ * Answers, in this order: SHAPE, STATE, FAIL (the end: A, or a bad entry header, as a read answers); then OK. After any other
+ * answer than OK the three numbers stay. `entry_id`, `length` and `end` are aligned as their types are.
+ */
+uint32_t punelovash_next_entry(const uint8_t *block, size_t block_length,
+                               const uint8_t *volume, size_t volume_length,
+                               const uint8_t *page, size_t page_length,
+                               size_t at,
+                               size_t *entry_id, size_t *length, size_t *end);
+uint32_t punelovash8_next_entry(const uint8_t *block, size_t block_length,
+                                const uint8_t *volume, size_t volume_length,
+                                const uint8_t *page, size_t page_length,
+                                uint64_t at,
+                                uint64_t *entry_id, size_t *length, uint64_t *end);
 
 /* O, the ID of the oldest entry. Each of these four is 0 for a block that holds no log; none changes anything. */
 size_t punelovash_log_start(const uint8_t *block, size_t block_length);

@@ -42,6 +42,12 @@ struct board {
     uint32_t (*deferred_call)(uint8_t *block, size_t block_length);
     uint32_t (*survey)(uint32_t p, uint32_t n, uint32_t first, const uint8_t *volume, size_t volume_length, uint64_t *ids,
         size_t ids_length, size_t *count);
+    uint32_t (*nearest)(const uint8_t *block, size_t block_length, const uint8_t *volume, size_t volume_length, const uint8_t *page,
+        size_t page_length, uint32_t stamp, uint64_t *entry_id);
+    uint32_t (*between)(const uint8_t *block, size_t block_length, const uint8_t *volume, size_t volume_length, const uint8_t *page,
+        size_t page_length, uint32_t first, uint32_t last, uint64_t *ids, size_t ids_length, uint64_t *value);
+    uint32_t (*next_entry)(const uint8_t *block, size_t block_length, const uint8_t *volume, size_t volume_length, const uint8_t *page,
+        size_t page_length, uint64_t at, uint64_t *entry_id, size_t *length, uint64_t *end);
     uint64_t (*log_start)(const uint8_t *block, size_t block_length);
     uint64_t (*log_end)(const uint8_t *block, size_t block_length);
     uint64_t (*next_read_entry_id)(const uint8_t *block, size_t block_length);
@@ -50,8 +56,8 @@ struct board {
 
 enum { ROOM = 16 }; /* a survey's elements */
 
-/* a board by its prefixes; where a function has IDs of the board's own type, one with 64 bits calls it */
-#define BOARD(lower, UPPER, word_bytes, c, id) \
+/* a board by its prefixes; where a function has IDs of the board's own types, a survey's `id` and `entry`, one with 64 bits calls it */
+#define BOARD(lower, UPPER, word_bytes, c, id, entry) \
     static uint64_t lower##_word(const uint8_t *block, size_t at) { return lower##_word_at(block, at); } \
     static uint32_t lower##_seek_to(uint8_t *block, size_t length, uint64_t to) { return lower##_seek(block, length, to); } \
     static uint64_t lower##_start(const uint8_t *block, size_t length) { return lower##_log_start(block, length); } \
@@ -67,6 +73,31 @@ enum { ROOM = 16 }; /* a survey's elements */
         for (size_t k = 0; k < ROOM; k++) ids[k] = own[k]; \
         return answer; \
     } \
+    static uint32_t lower##_nearest_to(const uint8_t *block, size_t length, const uint8_t *volume, size_t volume_length, \
+        const uint8_t *page, size_t page_length, uint32_t stamp, uint64_t *entry_id) \
+    { \
+        entry own = (entry)*entry_id; \
+        uint32_t answer = lower##_nearest(block, length, volume, volume_length, page, page_length, stamp, &own); \
+        *entry_id = own; \
+        return answer; \
+    } \
+    static uint32_t lower##_between_to(const uint8_t *block, size_t length, const uint8_t *volume, size_t volume_length, \
+        const uint8_t *page, size_t page_length, uint32_t first, uint32_t last, uint64_t *ids, size_t room, uint64_t *value) \
+    { \
+        entry own = (entry)*value; \
+        uint32_t answer = lower##_between(block, length, volume, volume_length, page, page_length, first, last, ids, room, &own); \
+        *value = own; \
+        return answer; \
+    } \
+    static uint32_t lower##_next_entry_to(const uint8_t *block, size_t length, const uint8_t *volume, size_t volume_length, \
+        const uint8_t *page, size_t page_length, uint64_t at, uint64_t *entry_id, size_t *entry_length, uint64_t *end) \
+    { \
+        entry own = (entry)*entry_id, own_end = (entry)*end; \
+        uint32_t answer = lower##_next_entry(block, length, volume, volume_length, page, page_length, at, &own, entry_length, &own_end); \
+        *entry_id = own; \
+        *end = own_end; \
+        return answer; \
+    } \
     static const struct board lower = { \
         .name = #lower, .w = word_bytes, .ceiling = c, .block_size = UPPER##_BLOCK_SIZE, \
         .at_page_size = UPPER##_AT_PAGE_SIZE, .at_page_count = UPPER##_AT_PAGE_COUNT, .at_first_page = UPPER##_AT_FIRST_PAGE, \
@@ -77,11 +108,12 @@ enum { ROOM = 16 }; /* a survey's elements */
         .request_page = lower##_request_page, .restart = lower##_restart, .append = lower##_append, .read = lower##_read, \
         .seek = lower##_seek_to, .sync = lower##_sync, .erase = lower##_erase, .write_complete = lower##_write_complete, \
         .erase_complete = lower##_erase_complete, .deferred_call = lower##_deferred_call, .survey = lower##_survey_to, \
+        .nearest = lower##_nearest_to, .between = lower##_between_to, .next_entry = lower##_next_entry_to, \
         .log_start = lower##_start, .log_end = lower##_end, .next_read_entry_id = lower##_next, .get_size = lower##_get_size \
     };
 
-BOARD(punelovash, PUNELOVASH, 4, 1879048192u, uint32_t)
-BOARD(punelovash8, PUNELOVASH8, 8, 0x7000000000000000u, uint64_t)
+BOARD(punelovash, PUNELOVASH, 4, 1879048192u, uint32_t, size_t)
+BOARD(punelovash8, PUNELOVASH8, 8, 0x7000000000000000u, uint64_t, uint64_t)
 
 /* the greater block of the two */
 enum { BLOCK_ROOM = PUNELOVASH8_BLOCK_SIZE };
@@ -373,15 +405,13 @@ static void entry_bytes(size_t i, size_t length, uint8_t *to)
     for (size_t k = 0; k < length; k++) to[k] = (uint8_t)(i * 31 + k * 13 + (i >> 8) + 1);
 }
 
-/* appends entry i, its page's write included */
-static void append_entry(struct bench *b, struct entries *all, size_t length)
+/* appends an entry of these bytes, its page's write included */
+static void append_bytes(struct bench *b, struct entries *all, const uint8_t *data, size_t length)
 {
-    uint8_t data[4096];
     size_t i = all->count;
     uint64_t before = end(b);
     int wrote;
     CHECK(i < MOST, "too many entries for the test");
-    entry_bytes(i, length, data);
     SAME(append(b, data, length, length, PUNELOVASH_WORD_OK), PUNELOVASH_OK, "append");
     wrote = board->request(b->block) == PUNELOVASH_WRITE;
     CHECK(wrote == (before % b->p == 0 || before % b->p + w + length > b->p), "a write %s requested", wrote ? "was" : "wasn't");
@@ -397,6 +427,14 @@ static void append_entry(struct bench *b, struct entries *all, size_t length)
     all->e[i].length = length;
     all->count++;
     SAME(end(b), all->e[i].id + w + length, "A after an append");
+}
+
+/* appends entry i */
+static void append_entry(struct bench *b, struct entries *all, size_t length)
+{
+    uint8_t data[4096];
+    entry_bytes(all->count, length, data);
+    append_bytes(b, all, data, length);
 }
 
 /* reads the next entry, which must be entry i */
@@ -442,6 +480,103 @@ static size_t first_entry(const struct bench *b, const struct entries *all)
     size_t i = 0;
     while (i < all->count && all->e[i].id < oldest(b)) i++;
     return i;
+}
+
+/* ---- The two searches and the step: they change no byte but the numbers and elements that they give ---- */
+
+enum { STAYS = 77 };
+
+static struct { uint8_t block[BLOCK_ROOM], page[4096], hold[4096]; } kept;
+
+static void keep(const struct bench *b)
+{
+    memcpy(kept.block, b->block, board->block_size);
+    memcpy(kept.page, b->page, b->p);
+    memcpy(kept.hold, b->hold, b->p);
+}
+
+static void check_kept(const struct bench *b)
+{
+    CHECK(memcmp(kept.block, b->block, board->block_size) == 0, "the block changed");
+    CHECK(memcmp(kept.page, b->page, b->p) == 0, "the page buffer changed");
+    CHECK(memcmp(kept.hold, b->hold, b->p) == 0, "the hold buffer changed");
+    check_bench(b);
+}
+
+static int gives_number(uint32_t answer) { return answer == PUNELOVASH_OK || answer == PUNELOVASH_NOMARK; }
+
+/* the nearest mark's ID, or that of an entry that is no mark, is `id`; it stays with any other answer */
+static void check_nearest(const struct bench *b, uint32_t stamp, uint32_t answer, uint64_t id)
+{
+    uint64_t got = STAYS;
+    keep(b);
+    SAME(board->nearest(b->block, board->block_size, b->volume, volume_length(b), b->page, b->p, stamp, &got), answer, "nearest");
+    check_kept(b);
+    SAME(got, gives_number(answer) ? id : STAYS, "the ID that nearest gives");
+}
+
+/* the count, or the ID of an entry that is no mark, is `value`; `want` has as many IDs as OK counts */
+static void check_between(const struct bench *b, uint32_t first, uint32_t last, size_t room, uint32_t answer, uint64_t value,
+    const uint64_t *want)
+{
+    size_t length = room * sizeof(uint64_t), count = answer == PUNELOVASH_OK ? (size_t)value : 0;
+    uint8_t *lent = lend(length, 0x66);
+    uint64_t got = STAYS;
+    keep(b);
+    SAME(board->between(b->block, board->block_size, b->volume, volume_length(b), b->page, b->p, first, last, (uint64_t *)(void *)lent,
+        room, &got), answer, "between");
+    check_kept(b);
+    check_guards(lent, length, "the IDs");
+    SAME(got, gives_number(answer) ? value : STAYS, "the number that between gives");
+    CHECK(count <= room, "more IDs than room");
+    for (size_t k = 0; k < count; k++) SAME(((uint64_t *)(void *)lent)[k], want[k], "an ID that between gives");
+    for (size_t k = count * sizeof(uint64_t); k < length; k++) SAME(lent[k], 0x66, "the elements after the count");
+    unlend(lent);
+}
+
+/* the marks from `first` to `last` are these, and between gives them where there is room for each */
+static void check_found(const struct bench *b, uint32_t first, uint32_t last, const uint64_t *want, size_t count)
+{
+    for (size_t room = count < 4 ? 0 : count - 2; room < count; room++)
+        check_between(b, first, last, room, PUNELOVASH_SIZE, 0, want);
+    for (size_t room = count; room < count + 3; room++) check_between(b, first, last, room, PUNELOVASH_OK, count, want);
+}
+
+/* the first entry at `at` or past it is the one of this ID and length; with any other answer than OK the three numbers stay */
+static void check_step(const struct bench *b, uint64_t at, uint32_t answer, uint64_t id, size_t length)
+{
+    uint64_t got = STAYS, to = STAYS;
+    size_t got_length = STAYS;
+    keep(b);
+    SAME(board->next_entry(b->block, board->block_size, b->volume, volume_length(b), b->page, b->p, at, &got, &got_length, &to), answer,
+        "next_entry");
+    check_kept(b);
+    SAME(got, answer == PUNELOVASH_OK ? id : STAYS, "the ID that next_entry gives");
+    SAME(got_length, answer == PUNELOVASH_OK ? length : STAYS, "the length that next_entry gives");
+    SAME(to, answer == PUNELOVASH_OK ? id + w + length : STAYS, "the ID after the entry");
+}
+
+/* from the oldest on, next_entry gives every entry from `first` up to `count`, and then FAIL */
+static void steps_over(const struct bench *b, const struct entries *all, size_t first)
+{
+    uint64_t at = oldest(b);
+    for (size_t i = first; i < all->count; i++) {
+        check_step(b, at, PUNELOVASH_OK, all->e[i].id, all->e[i].length);
+        at = all->e[i].id + w + all->e[i].length;
+    }
+    check_step(b, at, PUNELOVASH_FAIL, 0, 0);
+}
+
+/* the bytes of the entries from `first` on stand where the header says: in the page buffer or the volume */
+static void stand_there(const struct bench *b, const struct entries *all, size_t first)
+{
+    uint8_t want[4096];
+    for (size_t i = first; i < all->count; i++) {
+        uint64_t id = all->e[i].id;
+        const uint8_t *at = id / b->p == (end(b) - 1) / b->p ? b->page + (id + w) % b->p : b->volume + (id + w) % volume_length(b);
+        entry_bytes(i, all->e[i].length, want);
+        CHECK(memcmp(at, want, all->e[i].length) == 0, "the bytes of entry %zu stand elsewhere", i);
+    }
 }
 
 /* from the oldest on, every entry from `first` up to `count` is read, and no other */
@@ -571,6 +706,8 @@ static void laps(uint32_t p, uint32_t n, size_t count, uint64_t from)
             seek_done(&b, oldest(&b));
             SAME(all.e[first].id, oldest(&b), "the oldest entry's ID");
             reads_back(&b, &all, first);
+            steps_over(&b, &all, first);
+            stand_there(&b, &all, first);
         }
     }
     CHECK(end(&b) - from > 4 * volume_length(&b), "fewer than four laps");
@@ -1013,6 +1150,8 @@ static void refusals(void)
     b.block[board->at_append] = (uint8_t)after(5); /* as if there were an entry */
     REFUSED(&b, sync_log(&b, 0), PUNELOVASH_RESERVE);
     REFUSED(&b, read_into(&b, b.buffer, 32, 32), PUNELOVASH_FAIL); /* length 0 is a bad entry header */
+    check_step(&b, w, PUNELOVASH_FAIL, 0, 0);
+    check_nearest(&b, 5, PUNELOVASH_NOENTRY, 0);
     drop(&b);
 
     part = "flags";
@@ -1062,6 +1201,27 @@ static void refusals(void)
     SHAPE_OF_READ(v, 31);
     SHAPE_OF_READ(v, 0);
     check_bench(&b);
+    /* nor are the searches and a step */
+#define NOT_SEARCHED(block_, length_, vl, pl, answer_) do { \
+        uint64_t ids_[2] = { STAYS, STAYS }, number_ = STAYS, id_ = STAYS, end_ = STAYS; \
+        size_t size_ = STAYS; \
+        keep(&b); \
+        SAME(board->nearest(block_, length_, b.volume, vl, b.page, pl, 5, &number_), answer_, "nearest"); \
+        SAME(board->between(block_, length_, b.volume, vl, b.page, pl, 9, 5, ids_, 2, &number_), answer_, "between"); \
+        SAME(board->next_entry(block_, length_, b.volume, vl, b.page, pl, w, &id_, &size_, &end_), answer_, "next_entry"); \
+        check_kept(&b); \
+        SAME(number_, STAYS, "a refused search's number"); \
+        for (size_t k_ = 0; k_ < 2; k_++) SAME(ids_[k_], STAYS, "a refused search's elements"); \
+        SAME(id_, STAYS, "a refused step's ID"); \
+        SAME(size_, STAYS, "a refused step's length"); \
+        SAME(end_, STAYS, "a refused step's end"); \
+    } while (0)
+    NOT_SEARCHED(b.block, board->block_size, v - 1, 32, PUNELOVASH_SHAPE);
+    NOT_SEARCHED(b.block, board->block_size, v + 1, 32, PUNELOVASH_SHAPE);
+    NOT_SEARCHED(b.block, board->block_size, 0, 32, PUNELOVASH_SHAPE);
+    NOT_SEARCHED(b.block, board->block_size, v, 31, PUNELOVASH_SHAPE);
+    NOT_SEARCHED(b.block, board->block_size, v, 33, PUNELOVASH_SHAPE);
+    NOT_SEARCHED(b.block, board->block_size, v, 0, PUNELOVASH_SHAPE);
     {
         uint8_t good[BLOCK_ROOM];
         const struct { uint32_t p, n, first; } sizes[] = {
@@ -1081,7 +1241,9 @@ static void refusals(void)
             REFUSED(&b, erase(&b, 0), PUNELOVASH_SHAPE);
             REFUSED(&b, deferred_call(&b), PUNELOVASH_SHAPE);
             REFUSED(&b, read_into(&b, b.buffer, 32, 32), PUNELOVASH_SHAPE);
+            NOT_SEARCHED(b.block, board->block_size, v, 32, PUNELOVASH_SHAPE);
             b.block[board->at_oldest] = (uint8_t)(w + 1);
+            NOT_SEARCHED(b.block, board->block_size, v, 32, PUNELOVASH_SHAPE);
             REFUSED(&b, seek(&b, w), PUNELOVASH_SHAPE); /* before STATE */
             memcpy(b.block, good, board->block_size);
         }
@@ -1109,6 +1271,7 @@ static void refusals(void)
         SAME(board->write_complete(block_, length_, b.volume, v, b.page, 32, b.hold, 32, 1), answer_, "write_complete"); \
         SAME(board->erase_complete(block_, length_, b.volume, v, b.page, 32, b.hold, 32, 1, 0), answer_, "erase_complete"); \
         SAME(board->deferred_call(block_, length_), answer_, "deferred_call"); \
+        NOT_SEARCHED(block_, length_, v, 32, answer_); \
         SAME(board->log_start(block_, length_), 0, "log_start"); \
         SAME(board->log_end(block_, length_), 0, "log_end"); \
         SAME(board->next_read_entry_id(block_, length_), 0, "next_read_entry_id"); \
@@ -1122,6 +1285,8 @@ static void refusals(void)
             /* SHAPE first: what is lent has another length, or the block's own sizes aren't allowed */
             SAME(board->sync(b.block, board->block_size, b.volume, v - 1, b.page, 32, b.hold, 32, 0), PUNELOVASH_SHAPE, "volume, no log");
             SAME(board->read(b.block, board->block_size, b.volume, v, b.page, 31, b.buffer, 32, 32), PUNELOVASH_SHAPE, "page, no log");
+            NOT_SEARCHED(b.block, board->block_size, v - 1, 32, PUNELOVASH_SHAPE);
+            NOT_SEARCHED(b.block, board->block_size, v, 31, PUNELOVASH_SHAPE);
             CHECK(memcmp(b.block, bad, board->block_size) == 0, "a block that holds no log changed");
             put_sizes(b.block, 33, 4, 0);
             memcpy(bad, b.block, board->block_size);
@@ -1155,16 +1320,20 @@ static void refusals(void)
         REFUSED(&b, append(&b, ones, 5, 5, 0), PUNELOVASH_STATE);
         REFUSED(&b, sync_log(&b, 0), PUNELOVASH_STATE);
         REFUSED(&b, write_complete(&b, 1), PUNELOVASH_STATE);
+        NOT_SEARCHED(b.block, board->block_size, v, 32, PUNELOVASH_STATE);
         REFUSED(&b, board->sync(b.block, board->block_size, b.volume, v - 1, b.page, 32, b.hold, 32, 0), PUNELOVASH_SHAPE);
         memcpy(b.block, good, board->block_size);
         b.block[board->at_append] = (uint8_t)(w - 1);
         REFUSED(&b, deferred_call(&b), PUNELOVASH_STATE);
+        NOT_SEARCHED(b.block, board->block_size, v, 32, PUNELOVASH_STATE);
         memcpy(b.block, good, board->block_size);
         b.block[board->at_read + w - 1] = 0x80;
         REFUSED(&b, seek(&b, w), PUNELOVASH_STATE);
+        NOT_SEARCHED(b.block, board->block_size, v, 32, PUNELOVASH_STATE);
         memcpy(b.block, good, board->block_size);
         b.block[board->at_kept] = (uint8_t)(full(32) + 1);
         REFUSED(&b, erase(&b, 0), PUNELOVASH_STATE);
+        NOT_SEARCHED(b.block, board->block_size, v, 32, PUNELOVASH_STATE);
         memcpy(b.block, good, board->block_size);
         SAME(restart(&b), PUNELOVASH_OK, "restart after all that");
     }
@@ -1274,6 +1443,244 @@ static void survey(void)
     drop(&b);
 }
 
+/* ---- Marks ---- */
+
+enum { MARK = 15 };
+
+static void mark_bytes(uint32_t picture, uint32_t stamp, uint8_t turn, uint8_t *to)
+{
+    const uint8_t front[3] = { 1, 0, 12 };
+    memcpy(to, front, sizeof front);
+    for (int k = 0; k < 4; k++) {
+        to[3 + k] = (uint8_t)(picture >> (24 - 8 * k));
+        to[7 + k] = (uint8_t)(stamp >> (24 - 8 * k));
+    }
+    to[11] = turn;
+    to[12] = (uint8_t)(picture * 50); /* region, across and down: any bytes */
+    to[13] = 0;
+    to[14] = 255;
+}
+
+static void append_mark(struct bench *b, struct entries *all, uint32_t stamp)
+{
+    uint8_t data[MARK];
+    uint32_t picture = (uint32_t)all->count + 1;
+    mark_bytes(picture, stamp, (uint8_t)(picture % 4), data);
+    append_bytes(b, all, data, MARK);
+}
+
+/* four marks in two pages, of stamps 100, 110, 90 and 110 */
+static const uint64_t *four_marks(struct bench *b, struct entries *all)
+{
+    static const uint64_t at[2][4] = { { 4, 23, 42, 68 }, { 8, 31, 72, 95 } };
+    const uint64_t *ids = at[w == 8];
+    const uint32_t stamps[4] = { 100, 110, 90, 110 };
+    all->count = 0;
+    for (int k = 0; k < 4; k++) {
+        append_mark(b, all, stamps[k]);
+        SAME(all->e[k].id, ids[k], "a mark's ID");
+    }
+    return ids;
+}
+
+/* the answers among the four marks */
+static void four_found(const struct bench *b, const struct entries *all, const uint64_t *ids)
+{
+    check_nearest(b, 105, PUNELOVASH_OK, ids[0]); /* 5 away on either side: the earlier in the log */
+    check_nearest(b, 106, PUNELOVASH_OK, ids[1]);
+    check_nearest(b, 110, PUNELOVASH_OK, ids[1]);
+    check_nearest(b, 0, PUNELOVASH_OK, ids[2]);
+    check_nearest(b, 95, PUNELOVASH_OK, ids[0]);
+    check_nearest(b, 94, PUNELOVASH_OK, ids[2]);
+    check_nearest(b, UINT32_MAX, PUNELOVASH_OK, ids[1]);
+    check_found(b, 100, 110, (uint64_t[]){ ids[0], ids[1], ids[3] }, 3);
+    check_found(b, 90, 100, (uint64_t[]){ ids[0], ids[2] }, 2);
+    check_found(b, 0, 90, (uint64_t[]){ ids[2] }, 1);
+    check_found(b, 110, 110, (uint64_t[]){ ids[1], ids[3] }, 2);
+    check_found(b, 0, UINT32_MAX, ids, 4);
+    check_found(b, 91, 99, NULL, 0);
+    check_found(b, 111, UINT32_MAX, NULL, 0);
+    check_between(b, 5, 4, 4, PUNELOVASH_RANGE, 0, NULL);
+    check_between(b, UINT32_MAX, 0, 0, PUNELOVASH_RANGE, 0, NULL);
+    steps_over(b, all, 0);
+}
+
+static void mark_cases(void)
+{
+    static struct entries all;
+    struct bench b;
+    const uint64_t *ids;
+
+    part = "marks";
+    all.count = 0;
+    fresh(&b, 64, 4, 7, 1);
+    check_nearest(&b, 5, PUNELOVASH_NOENTRY, 0);
+    check_between(&b, 9, 3, 2, PUNELOVASH_NOENTRY, 0, NULL); /* before RANGE */
+    check_between(&b, 3, 9, 0, PUNELOVASH_NOENTRY, 0, NULL);
+    steps_over(&b, &all, 0);
+    ids = four_marks(&b, &all);
+    four_found(&b, &all, ids);
+
+    part = "an entry at an ID or past it";
+    check_step(&b, 0, PUNELOVASH_OK, ids[0], MARK);
+    check_step(&b, w == 4 ? 61 : 54, PUNELOVASH_OK, w == 4 ? 68 : 72, MARK); /* the padding behind a page's last entry */
+    check_step(&b, 64, PUNELOVASH_OK, w == 4 ? 68 : 72, MARK);
+    check_step(&b, ids[3], PUNELOVASH_OK, ids[3], MARK);
+    check_step(&b, end(&b), PUNELOVASH_FAIL, 0, 0);
+    check_step(&b, end(&b) + 1, PUNELOVASH_FAIL, 0, 0);
+    check_step(&b, 128, PUNELOVASH_FAIL, 0, 0);
+    check_step(&b, UINT64_MAX, PUNELOVASH_FAIL, 0, 0);
+
+    part = "marks in every state";
+    memset(b.hold, 0x99, b.p);
+    seek_done(&b, ids[2]); /* R is elsewhere than O */
+    SAME(seek(&b, ids[1]), PUNELOVASH_OK, "seek");
+    four_found(&b, &all, ids);
+    SAME(deferred_call(&b), PUNELOVASH_OK, "deferred_call");
+    SAME(read_into(&b, b.buffer, b.p, b.p), PUNELOVASH_OK, "read");
+    four_found(&b, &all, ids);
+    SAME(deferred_call(&b), PUNELOVASH_OK, "deferred_call");
+    SAME(sync_log(&b, PUNELOVASH_WORD_OK), PUNELOVASH_OK, "sync");
+    memset(b.volume + 64, 0, b.p); /* the page that is being written isn't read on flash */
+    memset(b.flash + 64, 0, b.p);
+    four_found(&b, &all, ids);
+    ends(&b, NEW);
+    SAME(write_complete(&b, 1), PUNELOVASH_OK, "write_complete");
+    four_found(&b, &all, ids);
+    SAME(append(&b, ones, full(64), full(64), PUNELOVASH_WORD_OK), PUNELOVASH_OK, "append");
+    SAME(board->state(b.block), PUNELOVASH_IN_APPEND, "state");
+    memset(b.volume + 64, 0, b.p);
+    memset(b.flash + 64, 0, b.p);
+    four_found(&b, &all, ids);
+    ends(&b, NEW);
+    SAME(restart(&b), PUNELOVASH_OK, "restart"); /* without the entry that was under way */
+    four_found(&b, &all, ids);
+    b.read_client = 0;
+    b.append_client = 0;
+    SAME(restart(&b), PUNELOVASH_OK, "restart with no client");
+    four_found(&b, &all, ids);
+    b.append_client = 1;
+    SAME(restart(&b), PUNELOVASH_OK, "restart");
+    SAME(erase(&b, PUNELOVASH_WORD_OK), PUNELOVASH_OK, "erase");
+    four_found(&b, &all, ids);
+    ends(&b, BLANK);
+    for (int completed = 0; completed < 2; completed++) { /* O is in the page that is blank, then behind it */
+        size_t left = w == 4 ? 1 : 2;
+        SAME(oldest(&b), completed ? 64 + w : w, "O");
+        SAME(board->state(b.block), PUNELOVASH_IN_ERASE, "state");
+        check_step(&b, oldest(&b), PUNELOVASH_OK, 64 + w, MARK);
+        check_nearest(&b, 0, PUNELOVASH_OK, ids[4 - left]);
+        check_found(&b, 0, UINT32_MAX, ids + 4 - left, left);
+        if (!completed) SAME(erase_complete(&b, 1, PUNELOVASH_WORD_OK), PUNELOVASH_OK, "erase_complete");
+    }
+    drop(&b);
+
+    part = "marks behind a blank page";
+    all.count = 0;
+    fresh(&b, 64, 4, 0, 1);
+    for (uint32_t k = 0; end(&b) <= 2 * 64; k++) append_mark(&b, &all, k);
+    synced(&b, NEW, 1);
+    memset(b.volume + 64, 0xFF, b.p);
+    memset(b.flash + 64, 0xFF, b.p);
+    SAME(restart(&b), PUNELOVASH_OK, "restart");
+    {
+        uint64_t seen[ROOM];
+        size_t count = all.count - 1, before = w == 4 ? 3 : 2; /* in page 0; the last is in page 2, the others were in page 1 */
+        SAME(all.e[count].id, 128 + w, "the ID of the mark in page 2");
+        for (size_t k = 0; k < before; k++) seen[k] = all.e[k].id;
+        check_nearest(&b, (uint32_t)count, PUNELOVASH_OK, seen[before - 1]);
+        check_found(&b, 0, UINT32_MAX, seen, before);
+        check_step(&b, seen[before - 1] + w + MARK, PUNELOVASH_FAIL, 0, 0);
+        check_step(&b, 128, PUNELOVASH_OK, 128 + w, MARK);
+        check_step(&b, 128 + w, PUNELOVASH_OK, 128 + w, MARK);
+    }
+    drop(&b);
+}
+
+/* an entry that isn't a mark, among marks: the first such is told, before all else that a search looks at */
+static void no_mark(const uint8_t *data, size_t length)
+{
+    static struct entries all;
+    struct bench b;
+    part = "an entry that is no mark";
+    for (size_t before = 0; before < 4; before++) {
+        all.count = 0;
+        fresh(&b, 64, 4, 0, 1);
+        for (size_t k = 0; k < before; k++) append_mark(&b, &all, 7);
+        append_bytes(&b, &all, data, length);
+        append_mark(&b, &all, 7);
+        append_entry(&b, &all, 3);
+        check_nearest(&b, 7, PUNELOVASH_NOMARK, all.e[before].id);
+        check_between(&b, 7, 7, 8, PUNELOVASH_NOMARK, all.e[before].id, NULL);
+        check_between(&b, 9, 3, 0, PUNELOVASH_NOMARK, all.e[before].id, NULL);
+        check_between(&b, 1, 2, 0, PUNELOVASH_NOMARK, all.e[before].id, NULL);
+        steps_over(&b, &all, 0);
+        drop(&b);
+    }
+}
+
+static void no_marks(void)
+{
+    const struct { size_t at; uint8_t byte; } wrong[] = {
+        { 0, 0 }, { 0, 2 }, { 0, 255 }, { 1, 1 }, { 1, 255 }, { 2, 11 }, { 2, 13 }, { 2, 0 }, { 11, 4 }, { 11, 255 }
+    };
+    uint8_t data[MARK + 1] = { 0 };
+    for (size_t k = 0; k < sizeof wrong / sizeof wrong[0]; k++) {
+        mark_bytes(1, 7, 3, data);
+        data[wrong[k].at] = wrong[k].byte;
+        no_mark(data, MARK);
+    }
+    mark_bytes(1, 7, 3, data);
+    no_mark(data, MARK - 1);
+    no_mark(data, MARK + 1);
+    no_mark(data, 1);
+}
+
+/* marks of few stamps round and round the volume, against a look at each of them; `from` as in `laps` */
+static void mark_laps(uint32_t p, uint32_t n, uint64_t from)
+{
+    static struct entries all;
+    static uint32_t stamps[MOST];
+    static uint64_t want[MOST];
+    const size_t most = (size_t)(n + 1) * ((p - w) / (w + MARK));
+    size_t filled = 0;
+    uint64_t state = 1;
+    struct bench b;
+    part = from == 0 ? "laps of marks" : "laps of marks far on";
+    all.count = 0;
+    make(&b, p, n, 1000, 1);
+    if (from != 0) put_page(&b, from, 0);
+    SAME(restart(&b), PUNELOVASH_OK, "restart");
+    while (end(&b) - from <= 4 * volume_length(&b)) {
+        size_t i = all.count, oldest_mark;
+        state = state * 6364136223846793005u + 1442695040888963407u;
+        stamps[i] = state >> 61 == 0 ? UINT32_MAX - i % 3 : (uint32_t)(state >> 40) % 50;
+        append_mark(&b, &all, stamps[i]);
+        /* a sync may take the oldest page; without one a log has marks in n + 1 pages */
+        if (i % 7 == 6 && end(&b) % p != w && end(&b) - from > 3 * volume_length(&b)) synced(&b, NEW, 1);
+        oldest_mark = first_entry(&b, &all);
+        if (all.count - oldest_mark > filled) filled = all.count - oldest_mark;
+        if (i % 5 != 0) continue;
+        steps_over(&b, &all, oldest_mark);
+        for (uint32_t asked = 0; asked < 60; asked += 7) {
+            size_t best = oldest_mark, count = 0;
+            uint32_t last = asked + (uint32_t)(i % 20);
+            for (size_t k = oldest_mark; k < all.count; k++) {
+                if (llabs((long long)stamps[k] - asked) < llabs((long long)stamps[best] - asked)) best = k;
+                if (asked <= stamps[k] && stamps[k] <= last) want[count++] = all.e[k].id;
+            }
+            check_nearest(&b, asked, PUNELOVASH_OK, all.e[best].id);
+            check_found(&b, asked, last, want, count);
+        }
+    }
+    SAME(filled, most, "the most marks that a log had");
+    for (size_t k = first_entry(&b, &all), count = 0; k < all.count; k++) {
+        want[count++] = all.e[k].id;
+        if (k + 1 == all.count) check_found(&b, 0, UINT32_MAX, want, count);
+    }
+    drop(&b);
+}
+
 static void plain(void)
 {
     static struct entries all;
@@ -1327,6 +1734,11 @@ static void test(const struct board *tested)
     refusals();
     survey();
     survey_order();
+    mark_cases();
+    no_marks();
+    mark_laps(64, 3, 0);
+    mark_laps(512, 2, 0);
+    mark_laps(64, 4, board->ceiling / 2 + 64);
     plain();
 }
 

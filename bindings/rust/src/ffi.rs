@@ -135,6 +135,45 @@ library! {
         count: *mut usize,
     ) -> u32;
 
+    fn nearest(
+        block: *const u8,
+        block_length: usize,
+        volume: *const u8,
+        volume_length: usize,
+        page: *const u8,
+        page_length: usize,
+        stamp: u32,
+        entry_id: *mut u64,
+    ) -> u32;
+
+    // `ids` has 64 bits on both boards
+    fn between(
+        block: *const u8,
+        block_length: usize,
+        volume: *const u8,
+        volume_length: usize,
+        page: *const u8,
+        page_length: usize,
+        first: u32,
+        last: u32,
+        ids: *mut u64,
+        ids_length: usize,
+        value: *mut u64,
+    ) -> u32;
+
+    fn next_entry(
+        block: *const u8,
+        block_length: usize,
+        volume: *const u8,
+        volume_length: usize,
+        page: *const u8,
+        page_length: usize,
+        at: u64,
+        entry_id: *mut u64,
+        length: *mut usize,
+        end: *mut u64,
+    ) -> u32;
+
     fn log_start(block: *const u8, block_length: usize) -> u64;
     fn log_end(block: *const u8, block_length: usize) -> u64;
     fn next_read_entry_id(block: *const u8, block_length: usize) -> u64;

@@ -32,6 +32,36 @@
 //! assert_eq!(&buffer[..5], b"hello");
 //! ```
 //!
+//! # Marks
+//!
+//! A [`Mark`] is an entry of 15 bytes with a stamp. In a log that has no other entries, [`Log::nearest`] and [`Log::between`] find
+//! marks by their stamps. [`Log::entries`] goes over the entries of any log. None of the three changes anything, or moves the read
+//! ID, and each answers whatever the log is doing.
+//!
+//! ```
+//! use punelovash::{Answer, DriverWord, EntryID, Geometry, Log4, LogWrite, Mark, Mode};
+//!
+//! let volume = [0xFF; 4 * 128];
+//! let mut log = Log4::new([0; 128], [0; 128]); // or Log8
+//! let sizes = Geometry { page_size: 128, page_count: 4, first_page: 0 };
+//! assert_eq!(log.restart(sizes, Mode::default(), &volume).answer, Answer::Ok);
+//! for (picture, stamp) in [(1, 100), (2, 110), (3, 90)] {
+//!     let mark = Mark { picture, stamp, turn: 0, region: 0, across: 0, down: 0 };
+//!     assert_eq!(log.append(&volume, &mark.to_bytes(), Mark::SIZE, DriverWord::Ok).answer, Answer::Ok);
+//! }
+//!
+//! assert_eq!(log.nearest(&volume, 104), Ok(EntryID(4)));
+//! let mut ids = [0; 8];
+//! assert_eq!(log.between(&volume, 100, 110, &mut ids), Ok(2));
+//! assert_eq!(ids[..2], [4, 23]);
+//!
+//! for entry in log.entries(&volume) {
+//!     let entry = entry.expect("the log that the restart made");
+//!     let mark = Mark::from_bytes(entry.bytes).expect("a mark");
+//!     assert_eq!(entry.id, EntryID(4 + 19 * u64::from(mark.picture - 1)));
+//! }
+//! ```
+//!
 //! # What is not promised
 //!
 //! What is proved is said in this folder's README. It is about the functions of the archives; this wrapper is tested. Of power cuts:
@@ -58,11 +88,13 @@
 mod block;
 mod ffi;
 mod log;
+mod marks;
 mod numbers;
 mod survey;
 mod word;
 
 pub use log::{Geometry, Log, Log4, Log8, LogRead, LogWrite, Mode};
+pub use marks::{Entries, Entry, Mark, Refused};
 pub use numbers::{Answer, DriverWord, EntryID, Outcome, PageNumber, Report, Request, State};
 pub use survey::survey;
 pub use word::Word;

@@ -21,7 +21,7 @@ pub enum Answer {
     Reserve,
     /// 6: a length or a seek's ID that isn't allowed
     Inval,
-    /// 7: the entry is too long for a page, or for a read's length; more page IDs than a survey has room for
+    /// 7: the entry is too long for a page, or for a read's length; more page IDs or marks than there is room for
     Size,
     /// 8: a read with its ID past the append ID
     Cancel,
@@ -33,6 +33,12 @@ pub enum Answer {
     Stray,
     /// 23: an append that needs a page at the ceiling
     Limit,
+    /// 24: a search, at the first entry of the log that is no mark
+    NoMark,
+    /// 25: a search of a log that has no entry
+    NoEntry,
+    /// 26: a search whose first stamp is above its last
+    Range,
     /// Any other number. The library gives none.
     Other(u32),
 }
@@ -51,6 +57,9 @@ impl Answer {
             21 => Answer::State,
             22 => Answer::Stray,
             23 => Answer::Limit,
+            24 => Answer::NoMark,
+            25 => Answer::NoEntry,
+            26 => Answer::Range,
             other => Answer::Other(other),
         }
     }
@@ -69,6 +78,9 @@ impl Answer {
             Answer::State => 21,
             Answer::Stray => 22,
             Answer::Limit => 23,
+            Answer::NoMark => 24,
+            Answer::NoEntry => 25,
+            Answer::Range => 26,
             Answer::Other(other) => other,
         }
     }

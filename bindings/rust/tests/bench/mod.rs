@@ -1,6 +1,7 @@
 //! A flash in memory, numbers from a seed, and both boards.
 #![allow(dead_code, unused_macros, unused_imports)]
 
+pub mod any;
 pub mod model;
 
 use punelovash::{DriverWord, Geometry, PageNumber, Request, Word};
