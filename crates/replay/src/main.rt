@@ -4,6 +4,7 @@
 mod calls;
 mod other;
 mod power;
+mod search;
 mod show;
 mod start;
 mod state;

@@ -95,6 +95,8 @@ impl<P: Print> Replay<'_, P> {
             Other::Volume => self.show_volume()?,
             Other::Put(state) => self.put(state)?,
             Other::Walk => self.walk()?,
+            Other::Nearest(stamp) => self.nearest(stamp)?,
+            Other::Between(listing) => self.between(listing)?,
         }
         Ok(())
     }

@@ -44,3 +44,8 @@ Spells words (l.Other (o.Put put)) client =
     × (words ≡ codes "state" ∷ state_word put.state ∷ o ∷ r ∷ a ∷ m ∷ [])
 -- `walk BYTES`: "at most 4,096 bytes, any length"
 Spells words (l.Other o.Walk) client = (length client ≤ 4096) × (words ≡ codes "walk" ∷ bytes_word client ∷ [])
+-- `nearest STAMP`, and `between FIRST LAST COUNT`: "a slice of COUNT words (at most 4,096)"
+Spells words (l.Other (o.Nearest stamp)) client = (n : List ℕ) × Numeral n stamp × (words ≡ codes "nearest" ∷ n ∷ [])
+Spells words (l.Other (o.Between listing)) client =
+    (f g n : List ℕ) × Numeral f listing.first × Numeral g listing.last × Numeral n listing.count × (listing.count ≤ 4096)
+    × (words ≡ codes "between" ∷ f ∷ g ∷ n ∷ [])

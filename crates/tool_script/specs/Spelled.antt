@@ -31,6 +31,8 @@ name_word n.Get = codes "get"
 name_word n.Survey = codes "survey"
 name_word n.State = codes "state"
 name_word n.Walk = codes "walk"
+name_word n.Nearest = codes "nearest"
+name_word n.Between = codes "between"
 
 -- how an operation ended
 abbrev pub end_word : end.End → List ℕ

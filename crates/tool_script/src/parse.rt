@@ -34,6 +34,8 @@ pub enum Name {
     Survey,
     State,
     Walk,
+    Nearest,
+    Between,
 }
 
 impl Name {
@@ -59,6 +61,8 @@ impl Name {
             Name::Survey => "survey",
             Name::State => "state",
             Name::Walk => "walk",
+            Name::Nearest => "nearest",
+            Name::Between => "between",
         }
     }
 
@@ -93,6 +97,8 @@ impl Word for Name {
             _ if Name::Survey.is(word) => Some(Name::Survey),
             _ if Name::State.is(word) => Some(Name::State),
             _ if Name::Walk.is(word) => Some(Name::Walk),
+            _ if Name::Nearest.is(word) => Some(Name::Nearest),
+            _ if Name::Between.is(word) => Some(Name::Between),
             _ => None,
         }
     }
@@ -187,6 +193,14 @@ pub struct Put {
     pub length: usize,
 }
 
+// Which marks are to be listed, and where: the first stamp and the last, and how many words the slice has.
+#[derive(Clone, Copy)]
+pub struct Listing {
+    pub first: u32,
+    pub last: u32,
+    pub count: usize,
+}
+
 // The lines that are no call of the log's engine.
 #[derive(Clone, Copy)]
 pub enum Other {
@@ -196,6 +210,8 @@ pub enum Other {
     Volume,
     Put(Put),
     Walk,
+    Nearest(u32),
+    Between(Listing),
 }
 
 // A line after the first three. The client's buffer stands beside a call, and beside a walk, whose page it is.
@@ -276,6 +292,18 @@ fn walk<const SIZE: usize>(mut words: Words, page: &mut Buffer<SIZE>) -> Result<
     Ok(Line::Other(Other::Walk))
 }
 
+// A slice of at most 4,096 words.
+fn between(mut words: Words) -> Result<Line, Fault>
+    ensures { (client : List ℕ) → length (words_left words.entry.rest) ≤ 3
+        → IfOk result (λ line. Spells (codes "between" ∷ words_left words.entry.rest) line client) }
+{
+    Ok(Line::Other(Other::Between(Listing {
+        first: words.stamp()?,
+        last: words.stamp()?,
+        count: words.number_up_to(4096)?,
+    })))
+}
+
 // A line after the first three, of which the words after its name are given. BYTES go to the client's buffer.
 pub fn parse_line<const SIZE: usize>(
     name: Name,
@@ -301,5 +329,7 @@ pub fn parse_line<const SIZE: usize>(
         Name::Volume => words.at_most(0).map(|_| Line::Other(Other::Volume)),
         Name::State => state_put(words.at_most(5)?),
         Name::Walk => walk(words.at_most(1)?, client),
+        Name::Nearest => Ok(Line::Other(Other::Nearest(words.at_most(1)?.stamp()?))),
+        Name::Between => between(words.at_most(3)?),
     }
 }

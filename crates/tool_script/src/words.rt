@@ -66,6 +66,15 @@ impl<'a> Words<'a> {
         Ok(n)
     }
 
+    // A stamp: a number below 2^32.
+    pub fn stamp(&mut self) -> Result<u32, Fault>
+        ensures number { IfOk result (λ n. (word : List ℕ) × IsTaken word self.old.rest self.new.rest × IsNumber word × (n ≡ digits_value 10 word)) }
+        ensures none { IfErr result (λ fault. (word : List ℕ) → (others : List (List ℕ)) → words_left self.old.rest ≡ word ∷ others → IsNumber word
+            → 4294967295 < digits_value 10 word) }
+    {
+        Ok(self.number_up_to(4294967295)? as u32)
+    }
+
     // BYTES, into a buffer.
     pub fn bytes<const SIZE: usize>(&mut self, buffer: &mut Buffer<SIZE>) -> Result<(), Fault>
         ensures taken { IfOk result (λ done. (word : List ℕ) × IsTaken word self.old.rest self.new.rest × IsBytes word buffer.new.len) }

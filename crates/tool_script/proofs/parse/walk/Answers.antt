@@ -1,5 +1,5 @@
 -- `tool_script::parse::walk` meets its contract.
-use Rattle.std.proofs.Common.{◌≤◌, ℕ, length, take, arith}
+use Rattle.std.proofs.Common.{◌≤◌, length, take, arith}
 use Rattle.std.proofs.lemmas.Grind.{common_steps}
 use Rattle.tool_script.proofs.parse.walk.Goals as goal
 
