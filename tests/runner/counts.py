@@ -1,8 +1,9 @@
-"""What a run has met: calls, answers, reports, refused erases, pages written, laps, cuts and restarts, pages walked."""
+"""What a run has met: calls, answers, reports, refused erases, pages written, laps, cuts and restarts, pages walked, searches among marks."""
 
 from collections import Counter
 
 from .flash import LEFT, Flash, erase_refused
+from .marks import MET
 from .oracles import turned_down
 from .sizes import Sizes
 from .trace import parse
@@ -60,11 +61,17 @@ class Counts:
         self.walks = Counter()  # of pages given alone, by how they ended
         self.restarts = Counter()  # the same of those pages on which the Rust restarted too
         self.words = 0  # that those walks read
+        self.searches = 0  # among the marks of a log
+        self.met = Counter()  # of these searches, by what they met
 
     def take_walk(self, walk, with_rust):
         self.walks[walk.ending] += 1
         self.restarts[walk.ending] += with_rust
         self.words += walk.words
+
+    def take_search(self, met):
+        self.searches += 1
+        self.met.update(met)
 
     def take(self, lines, trace, kind):
         """A script: its lines from `sizes` on, with a line of trace for each from the third."""
@@ -122,6 +129,8 @@ class Counts:
         self.walks += other.walks
         self.restarts += other.restarts
         self.words += other.words
+        self.searches += other.searches
+        self.met += other.met
 
     def calls(self):
         """How many calls were made and compared."""
@@ -143,8 +152,15 @@ class Counts:
         alone = [ending for ending in ENDINGS if not self.walks[ending]]
         return alone + [f"{ending} with the Rust" for ending in ENDINGS if not self.restarts[ending]]
 
+    def missing_searches(self):
+        """The same of searches."""
+        return [name for name in MET if not self.met[name]]
+
     def walked(self):
         return f"{self.walks.total()} pages, {self.words} length words"
+
+    def searched(self):
+        return f"{self.searches} searches"
 
     def __str__(self):
         calls, numbers = Counter(), Counter()
@@ -167,6 +183,8 @@ class Counts:
             f"walked alone: {self.walked()}",
             "ended at: " + (listed((name, self.walks[name]) for name in ENDINGS if self.walks[name]) or "nothing"),
             "with the Rust: " + (listed((name, self.restarts[name]) for name in ENDINGS if self.restarts[name]) or "nothing"),
+            f"among marks: {self.searched()}",
+            "met: " + (listed((name, self.met[name]) for name in MET if self.met[name]) or "nothing"),
         ])
 
 

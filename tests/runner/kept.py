@@ -10,7 +10,7 @@ import sys
 
 from .trace import parse
 
-ALONE = ("walk",)  # lines that the Rust doesn't have, and that change nothing: the program alone runs them
+ALONE = ("walk", "nearest", "between")  # lines that the Rust doesn't have, and that change nothing: the program alone runs them
 TESTS = pathlib.Path(__file__).resolve().parents[1]
 FIELDS = ("answer", "report", "request", "state", "O", "R", "A", "kept", "page", "hold", "buffer")
 

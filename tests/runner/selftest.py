@@ -10,6 +10,7 @@ from .compare import Difference, against_book, drop_lines, plainer
 from .counts import BOOK, CUTS, REFUSALS, Counts
 from .domain import Tracker, admits_restart
 from .kept import TESTS, Kept, unmet
+from .marks_selftest import marks_selftest
 from .oracles import turned_down
 from .sides import Program
 from .sizes import WIDTHS, Sizes
@@ -268,18 +269,21 @@ def check_wants(failures):
 
 
 def check_alone(failures):
-    with tempfile.TemporaryDirectory() as folder:
-        path = pathlib.Path(folder, "case.script")
-        path.write_text("sizes\nvolume\nrestart\nwalk -\n# want: line walk 4 0\nread\n# want: A 41\n")
-        kept = Kept(path)
-        walk = "walk 4 0"
-        check(failures, "the Rust has no walk", kept.shared.lines == ["sizes", "volume", "restart", "read"])
-        whole, trace = kept.whole, ["restart 0 - - ? 4 4 4 ? - ?", walk, ORACLE]
-        check(failures, "a walk as wanted", unmet(whole.wants, whole.lines, trace, None) == [])
-        check(failures, "another walk", len(unmet(whole.wants, whole.lines, [trace[0], "walk 4 1", ORACLE], None)) == 1)
+    """Of the lines that the Rust doesn't have."""
+    for line, says, other in (
+        ("walk -", "walk 4 0", "walk 4 1"), ("nearest 9", "nearest 0 4", "nearest 0 42"), ("between 1 2 0", "between 0 0", "between 7 -"),
+    ):
+        with tempfile.TemporaryDirectory() as folder:
+            path = pathlib.Path(folder, "case.script")
+            path.write_text(f"sizes\nvolume\nrestart\n{line}\n# want: line {says}\nread\n# want: A 41\n")
+            kept = Kept(path)
+        check(failures, f"the Rust has no '{line}'", kept.shared.lines == ["sizes", "volume", "restart", "read"])
+        whole, trace = kept.whole, ["restart 0 - - ? 4 4 4 ? - ?", says, ORACLE]
+        check(failures, f"'{line}' as wanted", unmet(whole.wants, whole.lines, trace, None) == [])
+        check(failures, f"'{line}' otherwise", len(unmet(whole.wants, whole.lines, [trace[0], other, ORACLE], None)) == 1)
         shared = kept.shared
-        check(failures, "what follows a walk", unmet(shared.wants, shared.lines, [trace[0], ORACLE], None) == [])
-        check(failures, "another line behind a walk", len(unmet(shared.wants, shared.lines, trace[:1] * 2, None)) == 1)
+        check(failures, f"what follows '{line}'", unmet(shared.wants, shared.lines, [trace[0], ORACLE], None) == [])
+        check(failures, f"another line behind '{line}'", len(unmet(shared.wants, shared.lines, trace[:1] * 2, None)) == 1)
 
 
 def cut_list(sizes, *changes):
@@ -555,4 +559,4 @@ def selftest():
     ):
         for width in WIDTHS:
             part(failures, width)
-    return failures + [failure for width in WIDTHS for failure in walks_selftest(width)]
+    return failures + [failure for width in WIDTHS for failure in walks_selftest(width) + marks_selftest(width)]

@@ -325,7 +325,9 @@ pub fn parse(line: &str) -> Result<Line, Bad> {
                 word: driver(word)?,
             }
         }
-        ["survey" | "state" | "walk", ..] => return bad(format!("the Rust has no {}", words[0])),
+        ["survey" | "state" | "walk" | "nearest" | "between", ..] => {
+            return bad(format!("the Rust has no {}", words[0]));
+        }
         _ => return bad(format!("not a line of a script: '{}'", words[0])),
     };
     Ok(Line::Call(call))
