@@ -2,7 +2,7 @@
 
 use crate::log::Log;
 use crate::memory::Volume;
-use crate::side::Side;
+use crate::side::{by_reads, mark, nearest_by_reads, Side, MARK};
 use kernel::deferred_call::DeferredCallClient;
 use kernel::hil::flash::{Client as FlashClient, Error, Flash};
 use kernel::hil::log::{LogRead, LogReadClient, LogWrite, LogWriteClient};
@@ -112,6 +112,7 @@ pub struct Original<const P: usize> {
     page: *mut Page<P>,
     circular: bool,
     ids: Box<[usize]>,
+    listed: Box<[u64]>,
     volume: Volume,
 }
 
@@ -167,6 +168,7 @@ impl<const P: usize> Side for Original<P> {
             page,
             circular,
             ids: vec![0; page_count].into(),
+            listed: vec![0; P * page_count / MARK].into(),
             volume,
         }
     }
@@ -244,6 +246,44 @@ impl<const P: usize> Side for Original<P> {
             *to = id;
         }
         self.ids[..count].sort_unstable();
+    }
+
+    fn append_mark(&mut self, stamp: u32) {
+        let buffer = self.take_buffer();
+        buffer[..MARK].copy_from_slice(&mark(stamp));
+        self.client.buffer.set(Some(buffer));
+        self.append(MARK);
+    }
+
+    /// `Log` has no search: each entry is read.
+    #[inline(never)]
+    fn nearest(&mut self, stamp: u32) -> usize {
+        nearest_by_reads(self, stamp)
+    }
+
+    #[inline(never)]
+    fn between(&mut self, first: u32, last: u32) -> usize {
+        let mut listed = std::mem::take(&mut self.listed);
+        let mut count = 0;
+        by_reads(self, |id, stamp| {
+            if (first..=last).contains(&stamp) {
+                listed[count] = id as u64;
+                count += 1;
+            }
+        });
+        self.listed = listed;
+        count
+    }
+
+    #[inline(always)]
+    fn entry(&mut self, mut look: impl FnMut(&[u8])) {
+        let buffer = self.take_buffer();
+        look(&buffer[..self.client.length.get()]);
+        self.client.buffer.set(Some(buffer));
+    }
+
+    fn read_id(&self) -> usize {
+        self.log.next_read_entry_id()
     }
 
     fn page_size(&self) -> usize {

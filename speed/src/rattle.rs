@@ -1,7 +1,7 @@
 //! The proved log, through the functions of a board's archive.
 
 use crate::memory::Volume;
-use crate::side::Side;
+use crate::side::{mark, Side, MARK};
 use punelovash::raw::At;
 use punelovash::Word;
 
@@ -18,6 +18,7 @@ pub struct Rattle<W: Word> {
     hold: Box<[u8]>,
     buffer: Box<[u8]>,
     ids: Box<[W]>,
+    listed: Box<[u64]>,
     page_count: u32,
     slot: Option<u32>,
     length: u32,
@@ -85,6 +86,7 @@ impl<W: Word> Side for Rattle<W> {
             hold: vec![0; page_size].into(),
             buffer: vec![0x55; page_size].into(),
             ids: vec![W::from(0); page_count].into(),
+            listed: vec![0; page_size * page_count / MARK].into(),
             page_count: page_count as u32,
             slot: None,
             length: 0,
@@ -262,6 +264,63 @@ impl<W: Word> Side for Rattle<W> {
             )
         };
         assert!(answer == 0 && count > 0);
+    }
+
+    fn append_mark(&mut self, stamp: u32) {
+        self.buffer[..MARK].copy_from_slice(&mark(stamp));
+        self.append(MARK);
+    }
+
+    #[inline(always)]
+    fn nearest(&mut self, stamp: u32) -> usize {
+        let mut id = 0;
+        let block = self.block.as_ref();
+        let answer = unsafe {
+            W::nearest(
+                block.as_ptr(),
+                block.len(),
+                self.lent.as_ptr(),
+                self.lent.len(),
+                self.page.as_ptr(),
+                self.page.len(),
+                stamp,
+                &mut id,
+            )
+        };
+        self.accepted(answer);
+        id as usize
+    }
+
+    #[inline(always)]
+    fn between(&mut self, first: u32, last: u32) -> usize {
+        let mut count = 0;
+        let block = self.block.as_ref();
+        let answer = unsafe {
+            W::between(
+                block.as_ptr(),
+                block.len(),
+                self.lent.as_ptr(),
+                self.lent.len(),
+                self.page.as_ptr(),
+                self.page.len(),
+                first,
+                last,
+                self.listed.as_mut_ptr(),
+                self.listed.len(),
+                &mut count,
+            )
+        };
+        self.accepted(answer);
+        count as usize
+    }
+
+    #[inline(always)]
+    fn entry(&mut self, mut look: impl FnMut(&[u8])) {
+        look(&self.buffer[..self.length as usize]);
+    }
+
+    fn read_id(&self) -> usize {
+        self.id(At::<W>::READ)
     }
 
     fn page_size(&self) -> usize {

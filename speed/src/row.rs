@@ -1,6 +1,9 @@
 //! The rows of the table: for each, how a log is made ready, and the calls that are measured.
 
-use crate::side::{fall, fill_page, flush, next_page, store, Side};
+use crate::side::{
+    fall, fill_page, fill_with_marks, flush, nearest_by_reads, next_page, store, Side,
+};
+use std::hint::black_box;
 
 /// Makes calls so many times on each log. A macro, so that they stand in the loop and not in a function of their own.
 macro_rules! repeat {
@@ -42,6 +45,11 @@ pub enum Kind {
     /// A survey of a volume that was gone around one and a half times, and of one whose IDs fall by slot.
     Survey,
     SurveyFalling,
+    /// A search among a volume of marks, gone around one and a half times: the nearest one, half of them listed, and the nearest one by reads, each
+    /// with its deferred call. `Log` has no search, so that on its side all three are by reads.
+    Nearest,
+    Between,
+    NearestByReads,
 }
 
 pub struct Row {
@@ -118,6 +126,9 @@ pub fn rows() -> Vec<Row> {
             rows.push(row(kind, (32, page_count), 16, 0, 1, 1));
         }
     }
+    for kind in [Nearest, Between, NearestByReads] {
+        rows.push(row(kind, (4096, 256), 15, 0, 1, 1));
+    }
     rows.extend([
         row(FlushAppend, (512, 4), 64, 0, MANY, 1),
         row(FlushComplete, (512, 4), 64, 0, MANY, 1),
@@ -159,6 +170,9 @@ impl Row {
             }
             Kind::Survey => format!("survey, N = {}, wrapped", self.page_count),
             Kind::SurveyFalling => format!("survey, N = {}, IDs fall by slot", self.page_count),
+            Kind::Nearest => "nearest mark".into(),
+            Kind::Between => "marks between two stamps, half of all".into(),
+            Kind::NearestByReads => "nearest mark, by reads".into(),
         }
     }
 
@@ -212,18 +226,36 @@ impl Row {
         matches!(self.kind, Kind::Survey | Kind::SurveyFalling)
     }
 
+    /// Whether it is a search among marks.
+    pub fn is_search(&self) -> bool {
+        matches!(
+            self.kind,
+            Kind::Nearest | Kind::Between | Kind::NearestByReads
+        )
+    }
+
+    /// The stamps that a search asks for, where the marks of each page are as many and their stamps 0, 1, 2 ..: half of those in the log lie between
+    /// the two.
+    fn stamps<S: Side>(&self, log: &S) -> (u32, u32) {
+        let in_page = (self.page_size - S::WORD) / (S::WORD + self.data);
+        let stamp = |id: usize| (id / self.page_size * in_page) as u32;
+        let (oldest, end) = (stamp(log.oldest()), stamp(log.end()));
+        (oldest + (end - oldest) / 4, oldest + (end - oldest) * 3 / 4)
+    }
+
     /// How many times the row's calls are made by one `measure`.
     pub fn calls(&self) -> usize {
         self.logs * self.times
     }
 
-    /// How many reports come from one `measure`.
-    fn reports(&self) -> usize {
+    /// How many reports come from one `measure`: of a search by reads as many as there are marks, which isn't looked at.
+    fn reports(&self) -> Option<usize> {
         use Kind::*;
         match self.kind {
             FlushAppend | ReadAlone | SyncAlone | SyncEmpty | Restart | RestartOnes | Survey
-            | SurveyFalling => 0,
-            _ => self.calls(),
+            | SurveyFalling => Some(0),
+            Nearest | Between | NearestByReads => None,
+            _ => Some(self.calls()),
         }
     }
 
@@ -241,6 +273,7 @@ impl Row {
             Restart | RestartOnes => self.fill_volume(log),
             Survey => (0..self.page_count * 3 / 2).for_each(|_| next_page(log, self.data)),
             SurveyFalling => fall(log, self.page_count),
+            Nearest | Between | NearestByReads => self.fill_with_marks(log),
             Sync | SyncAlone | SyncComplete => {
                 self.lap(log);
                 if self.left != 0 {
@@ -259,6 +292,14 @@ impl Row {
     fn lap<S: Side>(&self, log: &mut S) {
         let length = self.data.max(16);
         (0..self.page_count + 2).for_each(|_| next_page(log, length));
+    }
+
+    /// Marks, and a look at the searches: what they find is what reads find.
+    fn fill_with_marks<S: Side>(&self, log: &mut S) {
+        fill_with_marks(log, self.page_count);
+        let (first, last) = self.stamps(log);
+        assert!(log.nearest(first) == nearest_by_reads(log, first));
+        assert!(log.between(first, last) == (last - first + 1) as usize);
     }
 
     /// One and a half times around the volume, and the last page is written too: a restart finds the log's end where it is. All sides have as many
@@ -330,7 +371,8 @@ impl Row {
                     log.sync();
                 }
             }
-            Steady | Seek | SyncEmpty | Restart | RestartOnes | Survey | SurveyFalling => (),
+            Steady | Seek | SyncEmpty | Restart | RestartOnes | Survey | SurveyFalling
+            | Nearest | Between | NearestByReads => (),
         }
     }
 
@@ -374,6 +416,18 @@ impl Row {
             SyncEmpty => repeat!(logs, times, log => log.sync()),
             Restart | RestartOnes => repeat!(logs, times, log => log.restart()),
             Survey | SurveyFalling => repeat!(logs, times, log => log.survey()),
+            Nearest => {
+                let (first, _) = self.stamps(&logs[0]);
+                repeat!(logs, times, log => black_box(log.nearest(first)));
+            }
+            Between => {
+                let (first, last) = self.stamps(&logs[0]);
+                repeat!(logs, times, log => black_box(log.between(first, last)));
+            }
+            NearestByReads => {
+                let (first, _) = self.stamps(&logs[0]);
+                repeat!(logs, times, log => black_box(nearest_by_reads(log, first)));
+            }
         }
     }
 
@@ -384,7 +438,8 @@ impl Row {
         let before = reports(logs);
         around(&mut || self.measure(logs));
         assert!(
-            reports(logs) == before + self.reports(),
+            self.reports()
+                .is_none_or(|reports_due| reports(logs) == before + reports_due),
             "{}: reports are missing",
             self.name()
         );

@@ -31,6 +31,17 @@ pub trait Side {
     /// The IDs of the pages on flash, rising, to a slice with room for every page.
     fn survey(&mut self);
 
+    /// Appends a mark with that stamp.
+    fn append_mark(&mut self, stamp: u32);
+    /// The ID of the mark that is nearest to a stamp.
+    fn nearest(&mut self, stamp: u32) -> usize;
+    /// The IDs of the marks from a first to a last stamp, to a slice with room for every mark: how many they are.
+    fn between(&mut self, first: u32, last: u32) -> usize;
+    /// The bytes that the last read gave.
+    fn entry(&mut self, look: impl FnMut(&[u8]));
+    /// R.
+    fn read_id(&self) -> usize;
+
     fn page_size(&self) -> usize;
     fn oldest(&self) -> usize;
     fn end(&self) -> usize;
@@ -45,6 +56,50 @@ pub trait Side {
     fn reports(&self) -> usize;
 }
 
+/// The bytes of a mark.
+pub const MARK: usize = 15;
+
+/// A mark with that stamp.
+pub fn mark(stamp: u32) -> [u8; MARK] {
+    let mut bytes = [0; MARK];
+    bytes[..3].copy_from_slice(&[1, 0, 12]);
+    bytes[7..11].copy_from_slice(&stamp.to_be_bytes());
+    bytes
+}
+
+/// The stamp of a mark.
+fn stamp_of(bytes: &[u8]) -> u32 {
+    let mark: &[u8; MARK] = bytes.try_into().expect("a mark");
+    assert!(mark[..3] == [1, 0, 12] && mark[11] <= 3);
+    u32::from_be_bytes([mark[7], mark[8], mark[9], mark[10]])
+}
+
+/// Every mark of the log by reads, with its ID: what one would write without a reader of its own. R is at the log's end afterwards.
+#[inline(always)]
+pub fn by_reads<S: Side>(side: &mut S, mut each: impl FnMut(usize, u32)) {
+    side.seek(side.oldest());
+    side.deferred_call();
+    while side.read_id() < side.end() {
+        side.read();
+        side.deferred_call();
+        let id = side.read_id() - MARK - S::WORD;
+        side.entry(|bytes| each(id, stamp_of(bytes)));
+    }
+}
+
+/// The nearest mark by reads.
+#[inline(always)]
+pub fn nearest_by_reads<S: Side>(side: &mut S, stamp: u32) -> usize {
+    let mut best: Option<(u32, usize)> = None;
+    by_reads(side, |id, other| {
+        let difference = other.abs_diff(stamp);
+        if best.is_none_or(|(least, _)| difference < least) {
+            best = Some((difference, id));
+        }
+    });
+    best.expect("a mark").1
+}
+
 /// The write that was asked for is done.
 pub fn write<S: Side>(side: &mut S) {
     side.flash();
@@ -57,6 +112,19 @@ pub fn store<S: Side>(side: &mut S, length: usize) {
     if side.writing() {
         write(side);
     }
+}
+
+/// Appends marks with the stamps 0, 1, 2 .., until the log is one and a half times around its volume: how many they are.
+pub fn fill_with_marks<S: Side>(side: &mut S, page_count: usize) -> u32 {
+    let mut stamp = 0;
+    while side.end() < side.page_size() * page_count * 3 / 2 {
+        side.append_mark(stamp);
+        if side.writing() {
+            write(side);
+        }
+        stamp += 1;
+    }
+    stamp
 }
 
 /// Appends entries until one has gone to the next page.

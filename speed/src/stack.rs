@@ -2,7 +2,7 @@
 
 use crate::original::Original;
 use crate::rattle::Rattle;
-use crate::side::{fill_page, flush, next_page, Side, SIDES};
+use crate::side::{fill_page, fill_with_marks, flush, next_page, Side, SIDES};
 use punelovash::Word;
 use std::arch::asm;
 use std::ffi::c_void;
@@ -97,7 +97,7 @@ fn uses<S: Side>() -> Uses {
 /// The calls of the library that `Log` has not, or reads a cell for.
 fn others<W: Word>() -> Uses {
     let mut side = Rattle::<W>::new(512, 4);
-    next_page(&mut side, 64);
+    fill_with_marks(&mut side, 4);
     macro_rules! get {
         ($getter:ident) => {{
             let above_0 = |block, length| unsafe { W::$getter(block, length) } > 0;
@@ -106,6 +106,8 @@ fn others<W: Word>() -> Uses {
     }
     vec![
         ("survey", used(|| side.survey())),
+        ("nearest", used(|| assert!(side.nearest(0) > 0))),
+        ("between", used(|| assert!(side.between(0, u32::MAX) > 0))),
         get!(log_start),
         get!(log_end),
         get!(next_read_entry_id),

@@ -210,6 +210,18 @@ fn print_survey_growth(lines: &[Line]) {
     println!();
 }
 
+/// How many bytes of the volume a search among marks goes over in a second.
+fn print_rates(lines: &[&Line]) {
+    print_sides("Marks, beside reads: MiB a second", "call");
+    for line in lines {
+        let bytes = (line.row.page_size * line.row.page_count) as f64;
+        let rate = |side: &Spread| short(bytes / side.middle * 1e9 / f64::from(1 << 20));
+        let columns: Vec<String> = line.times.sides.iter().map(rate).collect();
+        print_line(&line.row.name(), &columns);
+    }
+    println!();
+}
+
 fn print_stack() {
     print_sides("Stack, in bytes", "call");
     for stack::Use { call, sides } in stack::table() {
@@ -223,6 +235,8 @@ pub fn print(whole: Option<&Path>) {
     let lines = rows().into_iter().map(|row| Line::of(row, whole));
     let lines: Vec<Line> = lines.collect();
     let (surveys, of_log): (Vec<&Line>, Vec<&Line>) = lines.iter().partition(|l| l.row.is_survey());
+    let (searches, of_log): (Vec<&Line>, Vec<&Line>) =
+        of_log.into_iter().partition(|l| l.row.is_search());
     let (parts, calls): (Vec<&Line>, Vec<&Line>) =
         of_log.into_iter().partition(|l| l.row.is_part());
     print_lines("Calls", &calls);
@@ -230,5 +244,7 @@ pub fn print(whole: Option<&Path>) {
     print_growth(&lines);
     print_lines("Survey, beside a sort", &surveys);
     print_survey_growth(&lines);
+    print_lines("Marks, beside reads", &searches);
+    print_rates(&searches);
     print_stack();
 }
