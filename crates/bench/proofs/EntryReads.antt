@@ -22,10 +22,10 @@ use Rattle.engine_call.specs.Gate.{gate}
 use Rattle.engine_read.specs.Read.{Found, entry, no_entry, found_length, found_at, found, read_done_of, read_runs, read, read_buffer}
 use Rattle.engine_read.specs.Deferred.{deferred_runs, deferred}
 use Rattle.engine_marks.specs.Entries.{LogPages, pages_of, Entry, end_of, with_length, with_place, first_entry, contents}
-use Rattle.engine_marks.proofs.EntryLaws.{Whole, first_at}
+use Rattle.engine_marks.proofs.EntryLaws.{place_of, length_at, held_at, Whole, first_at}
 use Rattle.bench.specs.Promise.{ReadsOn, on_ends, on_goes}
 use Rattle.bench.proofs.Gates.{fits_gate}
-use Rattle.bench.proofs.PageReads.{place_of, length_at, held_at, GoesOn, at_end, at_entry}
+use Rattle.bench.proofs.PageReads.{GoesOn, at_end, at_entry}
 
 -- the log in the run: its state, its read ID and its kept length vary
 abbrev pub reading_log : Log → State → ℕ → ℕ → Log

@@ -16,7 +16,7 @@ use Rattle.page.specs.Id.{slot_of}
 use Rattle.page.specs.Word.{le, word_at}
 use Rattle.page.specs.Slots.{slot_bytes}
 use Rattle.page.specs.Layout.{encode, encode_all, page_length, encode_page, whole_page, Good, AllGood}
-use Rattle.page.specs.Answered.{Answered, gives, refuses, FAIL}
+use Rattle.page.specs.Answered.{gives, refuses, FAIL}
 use Rattle.page_lookup.specs.Held.{bytes_at, byte_at, held_word, place, next_entry, entry_length}
 use Rattle.page.proofs.Kit.{Facts, facts, page_of_lem, rest_of, slot_of_lem}
 use Rattle.page.proofs.Slots.{length_slot}
@@ -27,19 +27,9 @@ use Rattle.page.proofs.Pages.{length_encode_page, encode_all_append, entries_len
 use Rattle.page_lookup.proofs.Helds.{lent, holder_buffer, holder_volume, first_byte_at}
 use Rattle.page_lookup.proofs.Places.{next_past}
 use Rattle.engine_marks.specs.Entries.{LogPages, Entry, end_of, with_length, first_entry, entries_from}
-use Rattle.engine_marks.proofs.EntryLaws.{Whole, entries_end, entries_more}
+use Rattle.engine_marks.proofs.EntryLaws.{place_of, length_at, held_at, Whole, entries_end, entries_more}
 use Rattle.bench_flash.specs.Flash.{blank_page}
 use Rattle.bench.specs.Promise.{placed}
-
--- the place of the entry at an ID, the length there, and bytes, as the pages have them
-abbrev pub place_of : LogPages → ℕ → ℕ
-place_of y r = place y.w y.p y.a y.volume y.page r
-
-abbrev pub length_at : LogPages → ℕ → Answered
-length_at y id = entry_length y.w y.p y.a y.volume y.page id
-
-abbrev pub held_at : LogPages → ℕ → ℕ → List ℕ
-held_at y pos i = bytes_at y.p y.a y.volume y.page pos i
 
 -- going from an ID on to the first FAIL gives these entries, none of which ends past A
 pub data GoesOn (y : LogPages) : ℕ → List Entry → Type 0 where

@@ -19,7 +19,7 @@ use Rattle.page.proofs.Pages.{begins_whole}
 use Rattle.engine_state.specs.Log.{Setup, Log}
 use Rattle.engine_state.proofs.Checks.{StateFits, state_fits_lem}
 use Rattle.engine_marks.specs.Entries.{LogPages, pages_of, log_entries}
-use Rattle.engine_marks.proofs.EntryLaws.{first_past}
+use Rattle.engine_marks.proofs.EntryLaws.{place_of, first_past}
 use Rattle.bench.specs.World.{World, lent_by}
 use Rattle.bench.specs.Book.{Page, Book, pages, least}
 use Rattle.bench.specs.Promise.{oldest_found, placed, of_page, and_then, placed_from, placed_at, book_placed, book_entries, ReadsOn}
@@ -28,7 +28,7 @@ use Rattle.bench.proofs.BookPages.{HeadersPages, empty, some_pages, one_page, no
 use Rattle.bench.proofs.Gates.{fits_shape}
 use Rattle.bench.proofs.Appends.{last_open}
 use Rattle.bench.proofs.RestartKeeps.{has_its_number, slot_holds, has_none, has_near, Recovers}
-use Rattle.bench.proofs.PageReads.{place_of, GoesOn, at_end, goes_entries, goes_past, goes_same, Shows, Paged, Shaped, whole_lem, shows_buffer, shows_volume}
+use Rattle.bench.proofs.PageReads.{GoesOn, at_end, goes_entries, goes_past, goes_same, Shows, Paged, Shaped, whole_lem, shows_buffer, shows_volume}
 use Rattle.bench.proofs.PageReads.{page_end, blank_goes, page_goes, page_place}
 use Rattle.bench.proofs.EntryReads.{Run, goes_reads}
 
