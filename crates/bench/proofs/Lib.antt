@@ -18,7 +18,7 @@ pub mod EraseStep
 pub mod CutStep
 pub mod RestartStep
 pub mod Theorem
-pub mod Boards
 pub mod Further
 pub mod Searches
+pub mod Boards
 pub mod Cases
