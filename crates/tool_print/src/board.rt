@@ -1,5 +1,5 @@
 // The sizes of the cases: words of 4 or of 8 bytes, pages of 8 words, volumes of 4 pages.
-ghost use Rattle.std.specs.Prelude.{◌≡◌, ◌+◌, ◌*◌, ◌%◌, ◌<◌, ◌≤◌};
+ghost use Rattle.std.specs.Prelude.{◌≡◌, ◌==◌, if◌then◌else◌, ◌+◌, ◌*◌, ◌%◌, ◌<◌, ◌≤◌};
 ghost use Rattle.page.specs.Sizes.{Sizes, ceiling, wrap};
 
 use page::word::WordWidth;
@@ -14,6 +14,17 @@ pub struct Board {
 }
 
 impl Board {
+    // A board with words of 8 bytes; any other width is taken for 4, so that nothing is asked of a caller.
+    pub fn new(width: usize) -> Self
+        ensures { result.width.bytes ≡ (if width == 8 then 8 else 4) }
+    {
+        Board {
+            width: WordWidth {
+                bytes: if width == 8 { 8 } else { 4 },
+            },
+        }
+    }
+
     // So many words, in bytes.
     pub fn words(self, n: u8) -> usize
         ensures value { result ≡ self.width.bytes * n }
