@@ -12,9 +12,9 @@ fn buffers(on: &Cases<impl Print>) -> io::Result<()> {
     let lent = Lent::new(on.board);
     let p = on.board.page_size();
     let fresh = from_start(on.board, on.board.words(1));
-    let page = |page_len| Lent { page_len, ..lent }.append(fresh, 4, OK);
-    let hold = |hold_len| Lent { hold_len, ..lent }.append(fresh, 4, OK);
-    line(on, "buffers of P", lent.append(fresh, 4, OK))?;
+    let page = |page_len| Lent { page_len, ..lent }.append_four(fresh);
+    let hold = |hold_len| Lent { hold_len, ..lent }.append_four(fresh);
+    line(on, "buffers of P", lent.append_four(fresh))?;
     line(on, "page buffer of P - 1", page(p - 1))?;
     line(on, "page buffer of P + 1", page(p + 1))?;
     line(on, "no page buffer", page(0))?;

@@ -53,13 +53,22 @@ impl Lent {
         )
     }
 
-    // An append of the first n bytes of P.
-    pub(crate) fn append(self, log: Log, n: usize, word: Driver) -> Outcome {
-        let data = [7; 64];
-        let data = &data[..self.board.page_size()];
+    // An append of the first n bytes of a client's buffer.
+    fn append_from(self, log: Log, data: &[u8], n: usize, word: Driver) -> Outcome {
         self.call(|volume, page, hold| {
             engine_write::append::append(log, volume, page, hold, data, n, word)
         })
+    }
+
+    // An append of the first n bytes of P.
+    pub(crate) fn append(self, log: Log, n: usize, word: Driver) -> Outcome {
+        let data = [7; 64];
+        self.append_from(log, &data[..self.board.page_size()], n, word)
+    }
+
+    // An append of all bytes of a client's buffer of 4.
+    pub(crate) fn append_four(self, log: Log) -> Outcome {
+        self.append_from(log, &[7; 4], 4, Driver::OK)
     }
 
     // A sync.
